@@ -6,7 +6,6 @@ use Rattle.std.proofs.lemmas.Bool.{lt-ltb, ltb-true, ltb-false}
 use Rattle.std.proofs.lemmas.List.{length-map, length-append}
 use Rattle.std.proofs.lemmas.Option.{slice_get_within}
 use Rattle.bl_base.proofs.Lists.{all_get, get_mapped, mapped_get}
-use Rattle.bl_iface.proofs.AppendLemmas.{get_left, get_right}
 use Rattle.bl_iface.specs.declared.iface.Iface.{Iface}
 use Rattle.bl_wasm.specs.Linked.{IsFunction, IsLinked, IsSlot}
 use Rattle.bl_wasm.specs.declared.linked.Tree.{Tree}
@@ -16,6 +15,7 @@ use Rattle.bl_apart.specs.Beside.{AreBeside, Beside}
 use Rattle.bl_apart.specs.BesideStores.{Agree}
 use Rattle.bl_apart.specs.LinkedApart.{behind, setting, whole_numbers}
 use Rattle.bl_rename.proofs.NamedInRange.{AgreeIn, function_same, slots_same}
+use Rattle.bl_cmd.proofs.AppendLemmas.{get_left, get_right}
 use Rattle.bl_apart.proofs.BesideSegments.{map_itself}
 
 -- ---- numbers

@@ -1,6 +1,7 @@
 -- The command `forward` keeps the laws and answers all contents that are there.
 use Rattle.std.proofs.Common.{◌≡◌, ◌↔◌, ◌++◌, ℕ, Bool, true, false, List, get_or, refl, ap, sym, ◌∙◌, arith, inl, inr, IsTrue}
 use Rattle.std.proofs.lemmas.Bool.{false≢true}
+use Rattle.bl_base.proofs.Classical.{either}
 use Rattle.bl_forward.proofs.ForwardPairs.{forwards_equal, forwards_hide}
 use Rattle.bl_forward.specs.ForwardMachines.{HasEqualForwarding, forward_step}
 use Rattle.bl_forward.specs.SameSights.{seen_decided}
@@ -14,7 +15,6 @@ use Rattle.bl_twin.proofs.Comparisons.{never_by, told_by}
 use Rattle.bl_twin.specs.declared.comparison.Comparison.TheVariants as compared
 use Rattle.bl_words.specs.Requests.{TwinRequest}
 use Rattle.bl_build.specs.TraceStages.{Twinned, entry_of}
-use Rattle.bl_build.proofs.Classical.{either}
 use Rattle.bl_job.specs.Jobs.{Plan, saying}
 use Rattle.bl_job.specs.Status.{kind_of}
 use Rattle.bl_job.specs.declared.status.Status.TheVariants.{No}

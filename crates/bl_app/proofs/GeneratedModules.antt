@@ -18,6 +18,7 @@ use Rattle.bl_cmd.specs.declared.definitions.ExportDef.{ExportDef}
 use Rattle.bl_cmd.specs.declared.definitions.FunctionDef.{FunctionDef}
 use Rattle.bl_image.specs.Image.{Image}
 use Rattle.bl_image.proofs.ImageExistence.{AreSmall, short_image}
+use Rattle.bl_image.proofs.ImageWidths.{image_widths}
 use Rattle.bl_lower.specs.Trees.{demanded_results, function_def, low_tree, params_by, results_by}
 use Rattle.bl_lower.proofs.WellFormed.{rules}
 use Rattle.bl_gen.proofs.SpelledModule.{spelled}
@@ -28,7 +29,6 @@ use Rattle.bl_words.specs.Requests.{GenRequest, IsGenInRange, gen}
 use Rattle.bl_build.specs.BuildStages.{command_count}
 use Rattle.bl_build.specs.LoadStages.{loading}
 use Rattle.bl_build.proofs.BuildLemmas.{compiled_within}
-use Rattle.bl_build.proofs.ImageWidths.{image_widths}
 use Rattle.bl_build.proofs.LoadTotal.{loaded_alone}
 use Rattle.bl_job.specs.Jobs.{FirstRefusal, against, too_long}
 use Rattle.bl_job.specs.Refusals.{Refusal}

@@ -6,6 +6,7 @@ use Rattle.std.proofs.lemmas.Option.{get_or_from_slice_get, none-some, same_Some
 use Rattle.bl_base.proofs.Lists.{get_mapped, zip_get}
 use Rattle.bl_base.specs.Runs.{Outcome}
 use Rattle.bl_base.specs.declared.start.Start.{Start}
+use Rattle.bl_base.specs.declared.names.Role.TheVariants.{Client, Library}
 use Rattle.bl_text.specs.Names.{module_name}
 use Rattle.bl_wasm.specs.Exports.{number_of}
 use Rattle.bl_wasm.specs.Linked.{IsLinked}
@@ -24,7 +25,6 @@ use Rattle.bl_image.specs.Image.{Image}
 use Rattle.bl_lower.specs.Trees.{low_tree, step_bound}
 use Rattle.bl_iface.specs.declared.iface.FnIface.{FnIface}
 use Rattle.bl_iface.specs.declared.iface.Iface.{Iface}
-use Rattle.bl_iface.specs.declared.iface.Role.TheVariants.{Client, Library}
 use Rattle.bl_rename.specs.Renamings.{Numbers, Renames, start_by}
 use Rattle.bl_rename.proofs.RenamedRuns.{outcome_here, outcome_there}
 use Rattle.bl_whole.specs.JoinedTree.{joined_tree}

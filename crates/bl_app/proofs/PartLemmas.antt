@@ -1,5 +1,7 @@
 -- The command `part` keeps the laws; what is said where it is done.
 use Rattle.std.proofs.Common.{◌≡◌, ℕ, Bool, List, ◌∷◌, Result, Ok, Err, refl, ap, sym, ◌∙◌, subst, map, arith, inl, length}
+use Rattle.bl_base.specs.declared.names.Role.{Role}
+use Rattle.bl_base.specs.declared.names.Role.TheVariants.{Client, Library}
 use Rattle.bl_cmd.specs.Sites.{is_protected}
 use Rattle.bl_cmd.specs.declared.definitions.ProgramParts.{ProgramParts as Program}
 use Rattle.bl_cut.specs.Marks.{protected}
@@ -10,8 +12,6 @@ use Rattle.bl_iface.specs.Roles.{KeepsRole, PassesAs}
 use Rattle.bl_iface.specs.RoleTests.{asked}
 use Rattle.bl_iface.specs.declared.iface.FnIface.{FnIface}
 use Rattle.bl_iface.specs.declared.iface.Iface.{Iface}
-use Rattle.bl_iface.specs.declared.iface.Role.{Role}
-use Rattle.bl_iface.specs.declared.iface.Role.TheVariants.{Client, Library}
 use Rattle.bl_iface.proofs.RoleTestLemmas.{as_from_under}
 use Rattle.bl_image.specs.Image.{Image}
 use Rattle.bl_transient.specs.Transient.{PassesUnder, nothing}

@@ -12,6 +12,9 @@ use Rattle.bl_base.specs.Quantity.{limit_of}
 use Rattle.bl_base.specs.Runs.{Outcome, outcome_of, returned, trapped}
 use Rattle.bl_base.specs.declared.quantity.Quantity.TheVariants as quantity
 use Rattle.bl_base.specs.declared.start.Start.{Start}
+use Rattle.bl_base.proofs.Classical.{either}
+use Rattle.bl_text.proofs.LineTexts.{all_read, lines_counted}
+use Rattle.bl_text.specs.Lines.{lines_of}
 use Rattle.bl_cmd.specs.Outcomes.{Agree, IsStart, opening as plain_opening, plain}
 use Rattle.bl_cmd.specs.Programs.{IsProgram}
 use Rattle.bl_cmd.specs.Rules.{IsWellFormed}
@@ -28,23 +31,20 @@ use Rattle.bl_rob.specs.Observations.{IsConsistent, observed, reached}
 use Rattle.bl_rob.specs.declared.directive.Directive.{Directive}
 use Rattle.bl_rob.specs.declared.directive.Directive.TheVariants.{Fetch, Predict, Exec, Retire}
 use Rattle.bl_rob.proofs.BufferInvariant.{consistent}
+use Rattle.bl_rob.proofs.OtherGlobals.{with_globals, step_same, observed_same}
 use Rattle.bl_sct.proofs.EqualObservations.{equal}
-use Rattle.bl_sct.proofs.OtherGlobals.{with_globals, step_same, observed_same}
 use Rattle.bl_sct.proofs.OtherSecrets.{hides}
 use Rattle.bl_sct.specs.OtherSecrets.{IsOtherGlobal, HasOtherSecrets, HidesGlobals}
 use Rattle.bl_sct.specs.Verdicts.{Assesses}
 use Rattle.bl_sct.specs.declared.verdict.Verdict.{Verdict}
 use Rattle.bl_sct.specs.declared.verdict.Verdict.TheVariants.{Safe, NotConstantTime, NotStable}
 use Rattle.bl_trace.proofs.StartFits.{answered_fits}
-use Rattle.bl_trace.proofs.LineTexts.{all_read, lines_counted}
 use Rattle.bl_trace.proofs.WrittenTraces.{no_feeds, reads_back}
-use Rattle.bl_trace.specs.Lines.{lines_of}
 use Rattle.bl_trace.specs.Observations.{observation_text}
 use Rattle.bl_trace.specs.Traces.{IsWritten, directive_of, directive_text, trace_of, trace_text}
 use Rattle.bl_words.specs.Requests.{AreTurnsInRange, PredictRequest}
 use Rattle.bl_build.specs.EntryStages.{Entered, Entry, Finds, IsImaged, Starts, entering, kinds_of, pages_of}
 use Rattle.bl_build.specs.TraceStages.{Speculated, Traced}
-use Rattle.bl_build.proofs.Classical.{either}
 use Rattle.bl_job.specs.Jobs.{Plan}
 use Rattle.bl_job.specs.Status.{kind_of}
 use Rattle.bl_job.proofs.StagedJobLemmas.{IsStagedCommand, one_done}

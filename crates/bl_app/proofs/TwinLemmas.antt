@@ -1,6 +1,7 @@
 -- The command `twin` keeps the laws and answers all contents that are there.
 use Rattle.std.proofs.Common.{◌≡◌, ℕ, Bool, true, false, List, refl, ap, sym, ◌∙◌, subst, arith, inl, inr, IsTrue, ◌↔◌}
 use Rattle.std.proofs.lemmas.Bool.{false≢true}
+use Rattle.bl_base.proofs.Classical.{either}
 use Rattle.bl_cmd.specs.Programs.{IsProgram}
 use Rattle.bl_cmd.specs.Rules.{IsWellFormed}
 use Rattle.bl_graph.specs.Labels.{ConstantTime}
@@ -13,7 +14,6 @@ use Rattle.bl_twin.specs.declared.comparison.Comparison.TheVariants as compared
 use Rattle.bl_words.specs.Requests.{TwinRequest}
 use Rattle.bl_build.specs.EntryStages.{Entry, Finds, IsImaged, Starts, starting}
 use Rattle.bl_build.specs.TraceStages.{Speculated, Traces, Twinned, entry_of, program_speculating, program_twinning, starting_other, twinning}
-use Rattle.bl_build.proofs.Classical.{either}
 use Rattle.bl_build.proofs.EntryStageLemmas.{imaged_lawful, starting_lawful}
 use Rattle.bl_build.proofs.ImagesTotal.{imaged_total, program_speculating_total, starting_total}
 use Rattle.bl_build.proofs.TraceLemmas.{program_speculating_lawful}

@@ -3,12 +3,12 @@ use Rattle.std.specs.Prelude.{◌≡◌, ◌≤◌, ℕ, List, [], ◌∷◌, �
 use Rattle.std.specs.Fmt.{decimal}
 use Rattle.bl_base.specs.Quantity.{limit_of}
 use Rattle.bl_base.specs.declared.quantity.Quantity.TheVariants as quantity
+use Rattle.bl_base.specs.declared.names.Role.{Role}
+use Rattle.bl_base.specs.declared.names.Role.TheVariants.{Client, Library}
 use Rattle.bl_cmd.specs.Rules.{IsWellFormed}
 use Rattle.bl_cmd.specs.Sites.{is_protected}
 use Rattle.bl_cmd.specs.declared.definitions.ProgramParts.{ProgramParts as Program}
 use Rattle.bl_iface.specs.JoinedProgram.{joined}
-use Rattle.bl_iface.specs.declared.iface.Role.{Role}
-use Rattle.bl_iface.specs.declared.iface.Role.TheVariants.{Client, Library}
 use Rattle.bl_image.specs.Image.{Image}
 use Rattle.bl_outcome.specs.Lines.{line}
 use Rattle.bl_transient.specs.Transient.{Passes}

@@ -3,6 +3,8 @@ use Rattle.std.specs.Prelude.{◌≡◌, ◌⊎◌, ◌≤◌, ℕ, ◌*◌, tru
 use Rattle.std.specs.List.{All, Contains}
 use Rattle.bl_base.specs.Runs.{Outcome}
 use Rattle.bl_base.specs.declared.start.Start.{Start}
+use Rattle.bl_base.specs.declared.names.Role.{Role}
+use Rattle.bl_base.specs.declared.names.Role.TheVariants.{Client, Library}
 use Rattle.bl_text.specs.Names.{module_name}
 use Rattle.bl_wasm.specs.Exports.{number_of}
 use Rattle.bl_wasm.specs.Modules.{Spells}
@@ -16,8 +18,6 @@ use Rattle.bl_cmd.specs.declared.definitions.ProgramParts.{ProgramParts as Progr
 use Rattle.bl_lower.specs.Trees.{step_bound}
 use Rattle.bl_iface.specs.JoinedProgram.{is_named}
 use Rattle.bl_iface.specs.declared.iface.Iface.{Iface}
-use Rattle.bl_iface.specs.declared.iface.Role.{Role}
-use Rattle.bl_iface.specs.declared.iface.Role.TheVariants.{Client, Library}
 use Rattle.bl_rename.specs.Renamings.{Alike, Numbers, start_by}
 use Rattle.bl_whole.specs.JoinedTree.{joined_tree}
 use Rattle.bl_apart.specs.LinkedApart.{whole_numbers}

@@ -8,10 +8,9 @@ ghost use Rattle.bl_job.specs.WorkAnswers.{IsWork, contents_in, plan_in, read_in
 ghost use Rattle.bl_job.specs.declared.status.Status.TheVariants.{No};
 ghost use Rattle.bl_words.specs.Words.{join_in};
 
-use bl_base::{NoMemory, Pos, Quantity};
+use bl_base::{NoMemory, Pos, Quantity, Role};
 use bl_build::{Built, Union, join_images};
 use bl_cmd::WellFormed;
-use bl_iface::Role;
 use bl_job::{Content, Plan, Read, Status, WorkError, list_reads, one_kept, three_files};
 use bl_words::JoinWords;
 use std::alloc::Global;

@@ -7,3 +7,9 @@ pub mod PieceLemmas
 pub mod RunLemmas
 pub mod SetLemmas
 pub mod Sums
+pub mod Members
+pub mod AscendingLists
+pub mod PositionSets
+pub mod PairwiseLemmas
+pub mod Classical
+pub mod Decisions

@@ -15,7 +15,7 @@ mod trap;
 
 pub use list::List;
 pub use memory::NoMemory;
-pub use names::{Flow, Label, ValueType};
+pub use names::{Flow, Label, Role, ValueType};
 pub use number::{Pos, Var};
 pub use quantity::{MOST_CALLS, Quantity};
 pub use run::{Pages, Run};

@@ -1,4 +1,4 @@
-//! Labels, flow types and value types.
+//! Labels, flow types, the sides of an interface, and value types.
 
 /// Who may learn a value: what isn't declared secret is public.
 #[derive(Clone, Copy, Debug, PartialEq, Eq, PartialOrd, Ord)]
@@ -16,6 +16,15 @@ pub enum Flow {
     Stable,
     /// The value may depend on a load that was executed on a guess.
     Transient,
+}
+
+/// On which side of an interface a program stands.
+#[derive(Clone, Copy, Debug, PartialEq, Eq)]
+pub enum Role {
+    /// It calls the interface's functions, and has a stub for each.
+    Client,
+    /// It has them.
+    Library,
 }
 
 /// The integer types of values (WebAssembly 1.0, section 2.3.1). A value of either is kept as a `u64`,

@@ -5,6 +5,8 @@ use Rattle.std.specs.Prelude.{IsSome}
 use Rattle.std.specs.List.{Contains, range_with_len}
 use Rattle.std.proofs.lemmas.Bool.{cases_eq, cases_lt, eq-eqb, false≢true, ne_eqb}
 use Rattle.std.proofs.lemmas.List.Elements.{Contains-append_cases, Contains-append_left, Contains-append_right}
+use Rattle.bl_base.proofs.Members.{first_in, from_map, in_cases, in_map, later_in, none_in}
+use Rattle.bl_base.proofs.Classical.{NotFalse, either}
 use Rattle.bl_cmd.specs.Programs.{IsProgram}
 use Rattle.bl_cmd.specs.Rules.{IsWellFormed}
 use Rattle.bl_cmd.specs.Sites.{IsLoad, Reads, SinkReads, Writes, site_weight}
@@ -22,7 +24,6 @@ use Rattle.bl_graph.specs.Ranges.{AreInRange, commands, variables}
 use Rattle.bl_graph.specs.declared.certificate.Certificate.{Certificate}
 use Rattle.bl_graph.specs.declared.certificate.FlowPath.{FlowPath}
 use Rattle.bl_graph.specs.declared.facts.Use.{Use}
-use Rattle.bl_graph.proofs.Members.{first_in, from_map, in_cases, in_map, later_in, none_in}
 use Rattle.bl_graph.proofs.NameLemmas.{all_are_names, place_in_range}
 use Rattle.bl_graph.proofs.RangeLemmas.{in_range}
 use Rattle.bl_graph.proofs.CommandLists.{Lists, lists_of}
@@ -36,7 +37,6 @@ use Rattle.bl_cut.proofs.NearestCuts.{certified, is_least}
 use Rattle.bl_cut.proofs.PassingCuts.{bounded, in_range as network_in_range, total}
 use Rattle.bl_cut.proofs.MarkedPrograms.{certifies_on, is_program, is_well_formed}
 use Rattle.bl_build.specs.HardenStage.{Hardened, IsHardened}
-use Rattle.bl_build.proofs.Classical.{NotFalse, either}
 use Rattle.bl_build.proofs.ProtectedImages.{protected_image}
 use Rattle.bl_build.proofs.VerdictsTotal.{some_label_verdict, table, table_at, table_length, table_past}
 

@@ -13,19 +13,19 @@ use Rattle.bl_cmd.specs.declared.definitions.ExportDef.{ExportDef}
 use Rattle.bl_cmd.specs.declared.definitions.MemRow.{MemRow}
 use Rattle.bl_cmd.specs.declared.definitions.MemoryDef.{MemoryDef}
 use Rattle.bl_cmd.specs.declared.definitions.SiteWeight.{SiteWeight}
+use Rattle.bl_cmd.specs.Widths.{HasWidths}
 use Rattle.bl_image.specs.Image.{Image}
-use Rattle.bl_image.specs.Widths.{HasWidths}
 use Rattle.bl_image.proofs.ImageExistence.{some_image}
 use Rattle.bl_link.specs.Linkable.{AreFew, HasFewExports}
 use Rattle.bl_link.proofs.Exports.{of_links}
+use Rattle.bl_link.proofs.ModuleWidths.{few_exports}
 use Rattle.bl_lower.specs.Trees.{export_def, is_filled, low_tree, memory_def, memory_row_at, rows_of}
 use Rattle.bl_lower.proofs.WellFormed.{facts, rules}
+use Rattle.bl_lower.proofs.Constants.{constants}
 use Rattle.bl_build.specs.BuildStages.{AreCompilable, command_count}
 use Rattle.bl_build.specs.LoadStages.{Part, linked_parts, loading}
-use Rattle.bl_build.proofs.Constants.{constants}
 use Rattle.bl_build.proofs.LoadLemmas.{all_accepted}
 use Rattle.bl_build.proofs.LoadTotal.{as_many, each_one, turned}
-use Rattle.bl_build.proofs.ModuleWidths.{few_exports}
 
 -- ---- rows
 

@@ -8,12 +8,13 @@ use Rattle.bl_base.specs.Quantity.{limit_of}
 use Rattle.bl_base.specs.declared.names.ValueType.{ValueType}
 use Rattle.bl_base.specs.declared.quantity.Quantity.TheVariants as quantity
 use Rattle.bl_base.specs.declared.start.Start.{Start}
+use Rattle.bl_base.proofs.Classical.{NotFalse, all_of, some_first}
+use Rattle.bl_text.specs.Lines.{lines_of}
 use Rattle.bl_cmd.specs.Rules.{AtCommand, Breaks, IsFirstBroken, IsWellFormed, Rule4, Rule5, Rule6, Rule7, Rule8, accesses, demands, exports, functions, growths, memories, ranges, targets, variables}
 use Rattle.bl_cmd.specs.declared.command.Command.{Command}
 use Rattle.bl_cmd.specs.declared.definitions.ProgramParts.{ProgramParts as Program}
 use Rattle.bl_rob.specs.declared.directive.Directive.{Directive}
 use Rattle.bl_trace.specs.StartFiles.{answer_by, answer_of, said}
-use Rattle.bl_trace.specs.Lines.{lines_of}
 use Rattle.bl_trace.specs.Traces.{trace_of}
 use Rattle.bl_trace.specs.declared.error.StartError.{StartError}
 use Rattle.bl_trace.specs.declared.error.StartError.TheVariants.{Line, Count, Memory}
@@ -23,7 +24,6 @@ use Rattle.bl_build.specs.EntryStages.{Entry, FindingRefuses, Finds, bad_line, b
 use Rattle.bl_build.specs.TraceStages.{Traced, Traces, TracingRefuses, bad_directive, no_directive, program_speculating, starting_traced, too_many, tracing}
 use Rattle.bl_job.specs.Refusals.{Refusal, limit}
 use Rattle.bl_job.specs.Stages.{Anything, IsTotalStage, Stage, chain}
-use Rattle.bl_build.proofs.Classical.{NotFalse, all_of, some_first}
 use Rattle.bl_build.proofs.ExportedFunctions.{named_exists}
 use Rattle.bl_job.proofs.StageLemmas.{beside_total, chain_total}
 

@@ -3,6 +3,9 @@ use Rattle.std.proofs.Common.{◌≡◌, ℕ, Bool, List, sym, ap, ◌∙◌, su
 use Rattle.std.specs.Prelude.{Ok, Err, Result}
 use Rattle.std.proofs.Math.Path.{fun_ext}
 use Rattle.bl_base.specs.declared.quantity.Quantity.{Quantity}
+use Rattle.bl_base.specs.declared.names.Role.{Role}
+use Rattle.bl_base.specs.declared.names.Role.TheVariants.{Client, Library}
+use Rattle.bl_text.specs.Lines.{lines_of}
 use Rattle.bl_cmd.specs.declared.definitions.ProgramParts.{ProgramParts as Program}
 use Rattle.bl_cmd.specs.Sites.{is_protected}
 use Rattle.bl_image.specs.Image.{Image}
@@ -21,14 +24,11 @@ use Rattle.bl_iface.specs.declared.error.IfaceError.TheVariants.{Line, Memory as
 use Rattle.bl_iface.specs.declared.error.JoinError.{JoinError}
 use Rattle.bl_iface.specs.declared.error.JoinError.TheVariants.{Export, Limit}
 use Rattle.bl_iface.specs.declared.iface.Iface.{Iface}
-use Rattle.bl_iface.specs.declared.iface.Role.{Role}
-use Rattle.bl_iface.specs.declared.iface.Role.TheVariants.{Client, Library}
 use Rattle.bl_iface.proofs.RoleTestLemmas.{bad_fails, under_from_as}
 use Rattle.bl_iface.proofs.LeastChoice.{none_given}
 use Rattle.bl_iface.proofs.OneAnswer.{first_one, limits_one, none_of_all}
 use Rattle.bl_iface.proofs.OneFile.{one_file}
 use Rattle.bl_iface.proofs.OneVerdict.{one_given}
-use Rattle.bl_trace.specs.Lines.{lines_of}
 use Rattle.bl_build.specs.BuildStages.{Built, compiling, sizing}
 use Rattle.bl_build.specs.EntryStages.{imaging}
 use Rattle.bl_build.specs.InterfaceStages.{HasBadLine, IsFileOf, IsGivenToSink, IsParted, Parted, Side, bad_interface_line, choosing, given_sink, interfacing, matching, reading, side_of, siding, unmatched_function, parting}

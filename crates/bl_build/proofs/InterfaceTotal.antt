@@ -10,9 +10,14 @@ use Rattle.std.proofs.lemmas.Option.{none-some, same_Some, slice_get_within}
 use Rattle.bl_base.proofs.Lists.{all_from, within_get}
 use Rattle.bl_base.specs.Quantity.{limit_of}
 use Rattle.bl_base.specs.declared.quantity.Quantity.TheVariants as quantity
+use Rattle.bl_base.specs.declared.names.Role.{Role}
+use Rattle.bl_base.specs.declared.names.Role.TheVariants.{Client, Library}
+use Rattle.bl_base.proofs.Classical.{all_or_first, some_first}
+use Rattle.bl_text.specs.Lines.{lines_of}
 use Rattle.bl_cmd.specs.Rules.{IsWellFormed}
 use Rattle.bl_cmd.specs.Sites.{is_protected}
 use Rattle.bl_cmd.specs.declared.definitions.ProgramParts.{ProgramParts as Program}
+use Rattle.bl_cmd.proofs.AppendLemmas.{get_right, get_take}
 use Rattle.bl_graph.specs.Ranges.{AreInRange}
 use Rattle.bl_graph.proofs.RangeLemmas.{in_range}
 use Rattle.bl_transient.specs.Verdicts.{IsBad, IsFirstBad}
@@ -28,13 +33,9 @@ use Rattle.bl_iface.specs.Roles.{PassesAs}
 use Rattle.bl_iface.specs.RoleTests.{IsGiven, asked}
 use Rattle.bl_iface.specs.declared.iface.FnIface.{FnIface}
 use Rattle.bl_iface.specs.declared.iface.Iface.{Iface}
-use Rattle.bl_iface.specs.declared.iface.Role.{Role}
-use Rattle.bl_iface.specs.declared.iface.Role.TheVariants.{Client, Library}
-use Rattle.bl_iface.proofs.AppendLemmas.{get_right, get_take}
 use Rattle.bl_iface.proofs.RoleTestLemmas.{as_from_under, asked_apart, none_passes}
 use Rattle.bl_iface.proofs.FileLines.{said_more}
 use Rattle.bl_iface.proofs.LeastChoice.{some_choice}
-use Rattle.bl_trace.specs.Lines.{lines_of}
 use Rattle.bl_build.specs.BuildStages.{AreCompilable, Built, compiling}
 use Rattle.bl_build.specs.EntryStages.{imaging}
 use Rattle.bl_build.specs.InterfaceStages.{IsGivenToSink, IsMatchable, IsParted, Parted, Side, bad_interface_line, choosing, given_sink, interfacing, matching, parting, reading, side_of, siding, unmatched_function}
@@ -45,7 +46,6 @@ use Rattle.bl_job.specs.Stages.{Anything, IsTotalStage, beside, chain}
 use Rattle.bl_lower.proofs.WellFormed.{rules}
 use Rattle.bl_job.proofs.StageLemmas.{beside_total, chain_total}
 use Rattle.bl_build.proofs.BuildLemmas.{builds_of, compiling_total, sizing_total}
-use Rattle.bl_build.proofs.Classical.{all_or_first, some_first}
 use Rattle.bl_build.proofs.ImagesTotal.{imaging_total}
 use Rattle.bl_build.proofs.JoinImages.{joined_image}
 use Rattle.bl_build.proofs.ProtectedImages.{protected_image}

@@ -2,6 +2,8 @@
 use Rattle.std.proofs.Common.{◌≡◌, ℕ, Bool, List, refl, sym, ap, ◌∙◌, subst}
 use Rattle.std.specs.Prelude.{Result, Ok, Err}
 use Rattle.std.specs.List.{All}
+use Rattle.bl_base.specs.declared.names.Role.{Role}
+use Rattle.bl_text.specs.Lines.{lines_of}
 use Rattle.bl_cmd.specs.Sites.{is_protected, weight_of}
 use Rattle.bl_cmd.specs.declared.definitions.ProgramParts.{ProgramParts as Program}
 use Rattle.bl_graph.specs.Ranges.{AreSites}
@@ -21,9 +23,7 @@ use Rattle.bl_iface.specs.declared.error.JoinError.TheVariants as join
 use Rattle.bl_iface.specs.declared.error.TargetsError.{TargetsError}
 use Rattle.bl_iface.specs.declared.error.TargetsError.TheVariants as targets
 use Rattle.bl_iface.specs.declared.iface.Iface.{Iface}
-use Rattle.bl_iface.specs.declared.iface.Role.{Role}
 use Rattle.bl_iface.proofs.OneAnswer.{none_of_all}
-use Rattle.bl_trace.specs.Lines.{lines_of}
 use Rattle.bl_build.specs.BuildStages.{Built, compiling, sizing}
 use Rattle.bl_build.specs.EntryStages.{imaging}
 use Rattle.bl_build.specs.InterfaceStages.{HasBadLine, IsFileOf, IsGivenToSink, IsUnmatched, Side, choosing, interfacing, matching, parting, reading, side_of, siding}

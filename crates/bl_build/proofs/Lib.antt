@@ -1,13 +1,10 @@
 pub mod BuildLemmas
 pub mod CertificateLemmas
-pub mod Classical
-pub mod Constants
 pub mod EntryStageLemmas
 pub mod ExportedFunctions
 pub mod LeastLemmas
 pub mod HardenExists
 pub mod HardenedFiles
-pub mod ImageWidths
 pub mod ImagesExist
 pub mod ImagesTotal
 pub mod InterfaceLemmas
@@ -33,4 +30,3 @@ pub mod SpeculationLemmas
 pub mod TraceLemmas
 pub mod VerdictsTotal
 pub mod WeightLemmas
-pub mod ModuleWidths

@@ -27,6 +27,7 @@ use Rattle.bl_link.specs.declared.part.Part.{Part as LinkPart}
 use Rattle.bl_link.proofs.FaultLemmas.{faults_name_parts, memory_is_no_fault}
 use Rattle.bl_link.proofs.SpelledParts.{labelled_part}
 use Rattle.bl_link.proofs.LinkedTrees.{linked}
+use Rattle.bl_link.proofs.ModuleWidths.{has_widths}
 use Rattle.bl_build.specs.LoadStages.{Accepted, AreLoadable, Decodes, IsLoadable, LabelledModule, LinkingRefuses, Links, Named, Part, ReadsLabels, data_range, element_range, mismatched_import, unknown_import, decoding, element, labelling, linked_parts, linking, loading, mismatched, segment, too_large, unknown, validation}
 use Rattle.bl_job.specs.Refusals.{Refusal, limit}
 use Rattle.bl_build.specs.EntryStages.{bad_line, few_arguments, no_export}
@@ -37,7 +38,6 @@ use Rattle.bl_build.proofs.LoadLemmas.{IsAccepted, all_accepted}
 use Rattle.bl_build.proofs.ModulesTotal.{decoding_total, labelling_total, validation_total}
 use Rattle.bl_job.proofs.StageLemmas.{chain_total, each_total}
 use Rattle.bl_build.proofs.InvocationLemmas.{exported_exists}
-use Rattle.bl_build.proofs.ModuleWidths.{has_widths}
 
 -- ---- modules that are loaded can be linked
 

@@ -1,6 +1,7 @@
 -- The stages of one module always answer.
 use Rattle.std.proofs.Common.{◌≡◌, ℕ, ◌+◌, List, [], ◌∷◌, length, Option, Some, None, refl, inl, inr, ap, sym, ◌∙◌}
 use Rattle.std.specs.Prelude.{Result, Ok, Err, codes}
+use Rattle.bl_base.proofs.Classical.{all_or_first}
 use Rattle.bl_wasm.specs.Limits.{Excess, first_excess}
 use Rattle.bl_wasm.specs.Modules.{Spells}
 use Rattle.bl_wasm.specs.Validity.{HasTyping, imported, function_of}
@@ -17,7 +18,6 @@ use Rattle.bl_validate.specs.declared.verdict.Invalid.TheVariants as reason
 use Rattle.bl_build.specs.LoadStages.{DecodingRefuses, Decodes, Named, Part, bad_labels, invalid_function, invalid_module, malformed, unsupported, decoding, excess, fault_of, labelling, no_module, not_supported, validation}
 use Rattle.bl_job.specs.Refusals.{Refusal, limit}
 use Rattle.bl_job.specs.Stages.{Anything, IsTotalStage}
-use Rattle.bl_build.proofs.Classical.{all_or_first}
 use Rattle.bl_labels.proofs.FaultLemmas.{never_memory}
 
 -- ---- decoding and validation

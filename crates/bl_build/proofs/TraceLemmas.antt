@@ -12,7 +12,7 @@ use Rattle.bl_build.proofs.EntryStageLemmas.{finding_lawful, starting_lawful}
 use Rattle.bl_job.proofs.StageLemmas.{beside_lawful, chain_lawful, told_as, told_memory}
 use Rattle.bl_base.specs.Quantity.{limit_of}
 use Rattle.bl_base.specs.declared.quantity.Quantity.TheVariants as quantity
-use Rattle.bl_trace.specs.Lines.{lines_of}
+use Rattle.bl_text.specs.Lines.{lines_of}
 use Rattle.bl_trace.specs.Traces.{IsTrace, trace_of}
 use Rattle.bl_trace.specs.declared.error.TraceError.{TraceError}
 use Rattle.bl_trace.specs.declared.error.TraceError.TheVariants as trace_reason

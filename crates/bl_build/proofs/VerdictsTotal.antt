@@ -11,6 +11,7 @@ use Rattle.bl_base.specs.declared.names.Flow.{Flow}
 use Rattle.bl_base.specs.declared.names.Flow.TheVariants.{Stable, Transient}
 use Rattle.bl_base.specs.declared.names.Label.{Label}
 use Rattle.bl_base.specs.declared.names.Label.TheVariants as label
+use Rattle.bl_base.proofs.Classical.{all_or_first, some_first}
 use Rattle.bl_cmd.specs.Programs.{IsProgram}
 use Rattle.bl_cmd.specs.Rules.{IsWellFormed}
 use Rattle.bl_cmd.specs.Sites.{SinkReads, is_protected}
@@ -19,7 +20,6 @@ use Rattle.bl_ct.specs.Verdicts.{FindsChain, IsLeastLabelling, Judges as JudgesL
 use Rattle.bl_ct.specs.declared.verdict.CtVerdict.{CtVerdict}
 use Rattle.bl_ct.specs.declared.verdict.CtVerdict.TheVariants as ct
 use Rattle.bl_ct.proofs.SecretTest.{is_tested, labelling}
-use Rattle.bl_ct.proofs.ChainExclusion.{chain_not, least}
 use Rattle.bl_ct.proofs.LabellingOrChain.{assigns, labelling_or_chain}
 use Rattle.bl_ct.proofs.KnownRanges.{secrets_in_range}
 use Rattle.bl_graph.specs.Certificates.{IsFlowPath, flow_through}
@@ -29,6 +29,7 @@ use Rattle.bl_graph.specs.declared.certificate.Certificate.{Certificate}
 use Rattle.bl_graph.specs.declared.certificate.FlowPath.{FlowPath}
 use Rattle.bl_graph.specs.declared.secret.SecretChain.{SecretChain}
 use Rattle.bl_graph.proofs.RangeLemmas.{in_range}
+use Rattle.bl_graph.proofs.ChainExclusion.{chain_not, least}
 use Rattle.bl_transient.specs.Transient.{Assigns, Passes, Trans, nothing}
 use Rattle.bl_transient.specs.Verdicts.{IsFirstLeak, IsLeastTyping, Judges as JudgesFlow, typing_of}
 use Rattle.bl_report.specs.Verdicts.{leak_in}
@@ -39,7 +40,6 @@ use Rattle.bl_transient.proofs.LeastTypings.{is_trans, least_assigns, least_typi
 use Rattle.bl_witness.specs.Verdicts.{ArePaths, Breaks, BreaksPath, Checks, Fits, at_path, at_position, at_sums, no_amount, no_chain, not_once}
 use Rattle.bl_witness.specs.declared.verdict.CertVerdict.{CertVerdict}
 use Rattle.bl_witness.specs.declared.verdict.CertVerdict.TheVariants as cert
-use Rattle.bl_build.proofs.Classical.{all_or_first, some_first}
 
 -- ---- certificates
 

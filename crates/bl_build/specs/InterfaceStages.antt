@@ -3,6 +3,8 @@ use Rattle.std.specs.Prelude.{◌≡◌, ◌≤◌, ℕ, Bool, List, [], ◌∷�
 use Rattle.std.specs.Fmt.{decimal}
 use Rattle.bl_base.specs.Quantity.{limit_of}
 use Rattle.bl_base.specs.declared.quantity.Quantity.TheVariants as quantity
+use Rattle.bl_base.specs.declared.names.Role.{Role}
+use Rattle.bl_text.specs.Lines.{lines_of}
 use Rattle.bl_cmd.specs.Rules.{IsWellFormed}
 use Rattle.bl_cmd.specs.declared.definitions.ProgramParts.{ProgramParts as Program}
 use Rattle.bl_graph.specs.Ranges.{AreInRange}
@@ -14,9 +16,7 @@ use Rattle.bl_iface.specs.InterfaceFunctions.{IsMatched, Matches}
 use Rattle.bl_iface.specs.RoleTests.{IsFirstGiven, asked}
 use Rattle.bl_iface.specs.declared.error.IfaceError.TheVariants.{Line}
 use Rattle.bl_iface.specs.declared.iface.Iface.{Iface}
-use Rattle.bl_iface.specs.declared.iface.Role.{Role}
 use Rattle.bl_image.specs.Image.{Image}
-use Rattle.bl_trace.specs.Lines.{lines_of}
 use Rattle.bl_build.specs.BuildStages.{compiling}
 use Rattle.bl_build.specs.LoadStages.{Part}
 use Rattle.bl_job.specs.Refusals.{Refusal, refusal_of}

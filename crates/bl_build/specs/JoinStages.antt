@@ -4,6 +4,8 @@ use Rattle.std.specs.Prelude.{◌≡◌, ℕ, List, [], ◌∷◌, codes}
 use Rattle.std.specs.Fmt.{decimal}
 use Rattle.std.specs.List.{All}
 use Rattle.bl_base.specs.declared.quantity.Quantity.{Quantity}
+use Rattle.bl_base.specs.declared.names.Role.{Role}
+use Rattle.bl_base.specs.declared.names.Role.TheVariants.{Client, Library}
 use Rattle.bl_cmd.specs.Sites.{is_protected}
 use Rattle.bl_cmd.specs.declared.definitions.ProgramParts.{ProgramParts as Program}
 use Rattle.bl_iface.specs.Answers.{StandsAgainst}
@@ -13,8 +15,6 @@ use Rattle.bl_iface.specs.RoleTests.{asked}
 use Rattle.bl_transient.specs.Verdicts.{IsFirstBad}
 use Rattle.bl_iface.specs.declared.error.JoinError.TheVariants.{Types, Export, Limit}
 use Rattle.bl_iface.specs.declared.iface.Iface.{Iface}
-use Rattle.bl_iface.specs.declared.iface.Role.{Role}
-use Rattle.bl_iface.specs.declared.iface.Role.TheVariants.{Client, Library}
 use Rattle.bl_build.specs.BuildStages.{Built, sizing}
 use Rattle.bl_build.specs.EntryStages.{imaging}
 use Rattle.bl_build.specs.InterfaceStages.{IsMatchable, Side, matching, reading, side_of}

@@ -6,6 +6,8 @@ use Rattle.bl_base.specs.declared.quantity.Quantity.TheVariants as quantity
 use Rattle.bl_base.specs.declared.start.Start.{Start}
 use Rattle.bl_cmd.specs.declared.definitions.ProgramParts.{ProgramParts as Program}
 use Rattle.bl_base.specs.declared.number.Pos.{Pos}
+use Rattle.bl_base.specs.declared.names.Role.{Role}
+use Rattle.bl_text.specs.Lines.{lines_of}
 use Rattle.bl_iface.specs.declared.choice.UnderError.{UnderError}
 use Rattle.bl_iface.specs.declared.choice.UnderError.TheVariants as under
 use Rattle.bl_iface.specs.declared.error.IfaceError.{IfaceError}
@@ -15,7 +17,6 @@ use Rattle.bl_iface.specs.declared.error.JoinError.TheVariants as join
 use Rattle.bl_iface.specs.declared.error.TargetsError.{TargetsError}
 use Rattle.bl_iface.specs.declared.error.TargetsError.TheVariants as targets
 use Rattle.bl_iface.specs.declared.iface.Iface.{Iface}
-use Rattle.bl_iface.specs.declared.iface.Role.{Role}
 use Rattle.bl_image.specs.declared.error.ImageError.{ImageError}
 use Rattle.bl_image.specs.declared.error.ImageError.TheVariants as image
 use Rattle.bl_decode.specs.declared.error.DecodeError.{DecodeError}
@@ -26,7 +27,6 @@ use Rattle.bl_link.specs.declared.error.LinkError.TheVariants as link
 use Rattle.bl_validate.specs.declared.verdict.Invalid.{Invalid}
 use Rattle.bl_validate.specs.declared.verdict.Invalid.TheVariants as invalid
 use Rattle.bl_rob.specs.declared.directive.Directive.{Directive}
-use Rattle.bl_trace.specs.Lines.{lines_of}
 use Rattle.bl_trace.specs.Traces.{trace_of}
 use Rattle.bl_trace.specs.declared.error.StartError.{StartError}
 use Rattle.bl_trace.specs.declared.error.StartError.TheVariants as start

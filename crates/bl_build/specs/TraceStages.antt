@@ -5,13 +5,13 @@ use Rattle.bl_base.specs.Quantity.{limit_of}
 use Rattle.bl_base.specs.declared.quantity.Quantity.TheVariants as quantity
 use Rattle.bl_cmd.specs.declared.definitions.ProgramParts.{ProgramParts as Program}
 use Rattle.bl_rob.specs.declared.directive.Directive.{Directive}
-use Rattle.bl_trace.specs.Lines.{lines_of}
 use Rattle.bl_trace.specs.Traces.{trace_of}
 use Rattle.bl_build.specs.EntryStages.{Entered, Entry, finding, imaging, starting}
 use Rattle.bl_job.specs.Refusals.{Refusal, limit, refusal_of}
 use Rattle.bl_job.specs.declared.status.Reason.TheVariants as why
 use Rattle.bl_job.specs.Stages.{Stage, beside, chain}
 use Rattle.bl_base.specs.declared.start.Start.{Start}
+use Rattle.bl_text.specs.Lines.{lines_of}
 
 -- ---- trace files
 

@@ -12,9 +12,9 @@ ghost use Rattle.bl_job.specs.WorkAnswers.{IsStaged, IsTold};
 use crate::build::{Built, sized};
 use crate::entry::read_image;
 use crate::interface::{match_all, read_interface};
-use bl_base::{NoMemory, Pos};
+use bl_base::{NoMemory, Pos, Role};
 use bl_cmd::WellFormed;
-use bl_iface::{Iface, JoinError, Role, UnderVerdict, join, passes_under};
+use bl_iface::{Iface, JoinError, UnderVerdict, join, passes_under};
 use bl_job::{Reason, WorkError, limit, refused_at};
 use std::alloc::Global;
 

@@ -1,5 +1,6 @@
 //! Laws of the stages. Each function is its contract alone.
 ghost use Rattle.std.specs.Prelude.{ℕ, Bool, List as Listed};
+ghost use Rattle.bl_base.specs.declared.names.Role.{Role};
 ghost use Rattle.bl_cmd.specs.Programs.{IsProgram};
 ghost use Rattle.bl_cmd.specs.Rules.{IsWellFormed};
 ghost use Rattle.bl_cmd.specs.declared.definitions.ProgramParts.{ProgramParts as Program};
@@ -18,7 +19,6 @@ ghost use Rattle.bl_build.specs.CertificateStages.{certifying, verifying};
 ghost use Rattle.bl_build.specs.EntryStages.{finding, imaging, starting};
 ghost use Rattle.bl_build.specs.InterfaceStages.{IsMatchable, choosing, matching, reading};
 ghost use Rattle.bl_build.specs.JoinStages.{AreMatchable, typing, uniting};
-ghost use Rattle.bl_iface.specs.declared.iface.Role.{Role};
 ghost use Rattle.bl_build.specs.HardenStage.{Hardened, IsHardened};
 ghost use Rattle.bl_build.specs.LoadStages.{AreLoadable, decoding, labelling, linking, loading, validation};
 ghost use Rattle.bl_build.specs.InvocationStages.{invoking};

@@ -15,11 +15,11 @@ ghost use Rattle.bl_text.specs.Names.{AreNamedApart};
 
 use crate::build::compile_program;
 use crate::interface::{match_all, read_interface};
-use bl_base::{NoMemory, Text};
+use bl_base::{NoMemory, Role, Text};
 use bl_cmd::WellFormed;
 use bl_cut::protect;
 use bl_graph::ranges;
-use bl_iface::{Iface, Role, UnderChoice, UnderError, least_under};
+use bl_iface::{Iface, UnderChoice, UnderError, least_under};
 use bl_image::encode;
 use bl_job::{Content, Reason, WorkError, refused_at};
 use std::alloc::Global;

@@ -7,3 +7,4 @@ pub mod Sites
 pub mod Steps
 pub mod Tables
 pub mod Verdicts
+pub mod Widths

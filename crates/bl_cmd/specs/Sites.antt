@@ -1,8 +1,7 @@
 -- Sites: what they write and read, where values must not come of a guess, and what a protect costs.
-use Rattle.std.specs.Prelude.{◌≡◌, ◌⊎◌, ℕ, ◌^◌, ◌==◌, Bool, true, false, if◌then◌else◌, IsSome, IsSomeAnd, List, [], ◌∷◌, length, find, Option, Some, None, option_map, option_and_then, unwrap_or}
+use Rattle.std.specs.Prelude.{◌≡◌, ◌⊎◌, ℕ, ◌^◌, ◌==◌, Bool, false, if◌then◌else◌, IsSome, IsSomeAnd, List, [], ◌∷◌, length, find, Option, Some, None, option_map, option_and_then, unwrap_or}
 use Rattle.bl_base.specs.Sums.{sum_below}
-use Rattle.bl_ops.specs.declared.op.Op.{Op}
-use Rattle.bl_ops.specs.declared.op.Op.TheVariants.{I32DivS, I32DivU, I32RemS, I32RemU, I64DivS, I64DivU, I64RemS, I64RemU}
+use Rattle.bl_ops.specs.OperatorTable.{is_division}
 use Rattle.bl_cmd.specs.Layout.{param, result, running, command_at}
 use Rattle.bl_cmd.specs.declared.command.Operand.{Operand}
 use Rattle.bl_cmd.specs.declared.command.Operand.TheVariants.{Var, Const}
@@ -53,18 +52,6 @@ moved_by (Set mark op to a b c) = a ∷ b ∷ c ∷ []
 moved_by (Arg mark function index value) = value ∷ []
 moved_by (Out mark index value) = value ∷ []
 moved_by _ = []
-
--- quotients and remainders
-abbrev pub is_division : Op → Bool
-is_division I32DivS = true
-is_division I32DivU = true
-is_division I32RemS = true
-is_division I32RemU = true
-is_division I64DivS = true
-is_division I64DivU = true
-is_division I64RemS = true
-is_division I64RemU = true
-is_division op = false
 
 -- sinks, the operands that an observer learns of: the condition of a Test, the address of a Load or Store, and both operands
 -- of a quotient or remainder

@@ -20,7 +20,7 @@ pub use definitions::{
     SiteWeight,
 };
 pub use place::owner_among;
-pub use program::{Program, arity};
+pub use program::{FIRST_ENTRY, Program, arity};
 pub use tables::firsts_of;
 pub use verdict::{CheckError, check};
 pub use weights::{mark_at, site_weight, weight};

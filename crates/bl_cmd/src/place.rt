@@ -6,6 +6,7 @@ ghost use Rattle.bl_cmd.specs.Tables.{IsPlace, IsTarget, ReadsOne};
 
 use crate::command::{Command, Operand};
 use crate::definitions::{FunctionDef, ProgramParts};
+use crate::program::FIRST_ENTRY;
 use crate::tables::{Entrants, Tables};
 use bl_base::{Pos, Var};
 
@@ -204,7 +205,7 @@ impl<'p> Place<'p> {
         requires { IsPlace self.now }
         ensures { IsTrue result ↔ IsTarget self.now to.0 }
     {
-        to.0 < 7 || self.holds(to.0)
+        to.0 < FIRST_ENTRY || self.holds(to.0)
     }
 
     /// Whether the position is the function's last one.

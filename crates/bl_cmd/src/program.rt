@@ -9,6 +9,9 @@ use crate::definitions::{FunctionDef, ProgramParts};
 use bl_ops::{Op, row};
 use std::marker::Model;
 
+/// The first position of the commands of functions: those before it are the traps.
+pub const FIRST_ENTRY: u32 = 7;
+
 /// A program. Each load has the kind of a load and each store that of a store; operands past those that an operator takes
 /// are 0; positions 0 to 6 are the traps of kinds 0 to 6; and the functions' lengths add up to the commands behind them
 /// (`IsProgram`). Contracts see its parts.
@@ -147,7 +150,7 @@ fn unlisted_arity(op: Op) -> u8
 fn have_traps(commands: &[Command]) -> bool
     ensures { IsTrue result ↔ ((position : ℕ) → position < 7 → IsTrapAt commands.now position) }
 {
-    for position in 0..7 {
+    for position in 0..FIRST_ENTRY {
         if !is_trap_at(commands, position) {
             return false;
         }
@@ -156,12 +159,12 @@ fn have_traps(commands: &[Command]) -> bool
 }
 
 /// Whether the command at the position is the trap of that kind.
-fn is_trap_at(commands: &[Command], position: u8) -> bool
+fn is_trap_at(commands: &[Command], position: u32) -> bool
     requires { position < 7 }
     ensures { IsTrue result ↔ IsTrapAt commands.now position }
 {
     match commands.get(position as usize) {
-        Some(Command::Trap { kind }) => kind.code() == position,
+        Some(Command::Trap { kind }) => u32::from(kind.code()) == position,
         _ => false,
     }
 }
@@ -170,10 +173,10 @@ fn is_trap_at(commands: &[Command], position: u8) -> bool
 fn fill(functions: &[FunctionDef], count: usize) -> bool
     ensures { IsTrue result ↔ (count ≡ 7 + sum_before (λ function. function.length) functions.now (length functions.now)) }
 {
-    if count < 7 {
+    if count < FIRST_ENTRY as usize {
         return false;
     }
-    let mut rest = count - 7;
+    let mut rest = count - FIRST_ENTRY as usize;
     for function in functions {
         if function.length as usize > rest {
             return false;

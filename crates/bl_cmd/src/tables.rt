@@ -8,6 +8,7 @@ ghost use Rattle.bl_cmd.specs.Entrants.{AreEntrants, joined, with_entrant, with_
 
 use crate::command::Command;
 use crate::definitions::ProgramParts;
+use crate::program::FIRST_ENTRY;
 use bl_base::{List, NoMemory, Pos};
 use std::alloc::Global;
 
@@ -71,7 +72,7 @@ fn entries_of(alloc: Global, parts: &ProgramParts) -> Result<List<u32>, NoMemory
     ensures { IfOk result (λ entries. AreValues (entry_of parts.now) (length parts.now.functions) entries) }
 {
     let mut entries = List::new(alloc);
-    let mut entry = 7;
+    let mut entry = FIRST_ENTRY;
     entries.push(entry)?;
     for function in parts.functions.as_slice() {
         entry += function.length;

@@ -9,3 +9,4 @@ pub mod Shapes
 pub mod Sizes
 pub mod Unique
 pub mod Vectors
+pub mod ImportForms

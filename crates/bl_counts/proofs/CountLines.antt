@@ -3,9 +3,9 @@ use Rattle.std.proofs.Common.{◌≡◌, ℕ, ◌+◌, ◌-◌, ◌==◌, List, 
 use Rattle.std.proofs.Math.ListN.{drop_of_length-le}
 use Rattle.std.proofs.lemmas.List.{take_rest}
 use Rattle.std.specs.List.{position_or_len}
-use Rattle.bl_trace.specs.Items.{items_of}
-use Rattle.bl_trace.specs.Lines.{lines_of}
-use Rattle.bl_trace.proofs.LineSplits.{first_line}
+use Rattle.bl_text.specs.Items.{items_of}
+use Rattle.bl_text.specs.Lines.{lines_of}
+use Rattle.bl_text.proofs.LineSplits.{first_line}
 use Rattle.bl_counts.specs.CountFiles.{commands_of, count_file_of, counted, counted_by, site_of, with_commands}
 
 -- the first line is bad

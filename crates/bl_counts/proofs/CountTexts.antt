@@ -7,9 +7,9 @@ use Rattle.std.proofs.lemmas.List.{at_drop_all}
 use Rattle.std.proofs.lemmas.List.Elements.{All-head, All-tail}
 use Rattle.bl_text.specs.Digits.{decimal_below}
 use Rattle.bl_text.proofs.DecimalTexts.{are_digits, is_inner, read_back}
-use Rattle.bl_trace.specs.Items.{item_before, items_of}
-use Rattle.bl_trace.specs.Lines.{lines_of}
-use Rattle.bl_trace.proofs.LineTexts.{HasNoFeed, line_before, none_in_both, without_feeds}
+use Rattle.bl_text.specs.Items.{item_before, items_of}
+use Rattle.bl_text.specs.Lines.{lines_of}
+use Rattle.bl_text.proofs.LineTexts.{HasNoFeed, line_before, none_in_both, without_feeds}
 use Rattle.bl_counts.specs.CountFiles.{commands_of, count_file_of, counted, counted_by, counts_text, site_in, site_of, site_text, site_with, with_commands}
 use Rattle.bl_counts.specs.RecordedRuns.{IsWritten}
 use Rattle.bl_counts.specs.declared.counts.SiteCount.{SiteCount}

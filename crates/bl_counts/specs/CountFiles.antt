@@ -3,13 +3,13 @@ use Rattle.std.specs.Prelude.{◌≡◌, ℕ, zero, suc, ◌+◌, ◌^◌, ◌==
 use Rattle.std.specs.Fmt.{decimal}
 use Rattle.std.specs.List.{before_first, after_first, flat_map}
 use Rattle.std.specs.Str.{bytes_eq}
+use Rattle.bl_text.specs.Digits.{decimal_below}
+use Rattle.bl_text.specs.Items.{items_of}
+use Rattle.bl_text.specs.Lines.{lines_of}
 use Rattle.bl_counts.specs.declared.file.CountFile.{CountFile}
 use Rattle.bl_counts.specs.declared.counts.SiteCount.{SiteCount}
 use Rattle.bl_counts.specs.declared.error.CountFileError.{CountFileError}
 use Rattle.bl_counts.specs.declared.error.CountFileError.TheVariants.{Line, Memory}
-use Rattle.bl_text.specs.Digits.{decimal_below}
-use Rattle.bl_trace.specs.Items.{items_of}
-use Rattle.bl_trace.specs.Lines.{lines_of}
 
 -- the number of commands that a line `commands N` says, below 2^64
 abbrev pub commands_of : List ℕ → Option ℕ

@@ -1,15 +1,14 @@
 //! Count files.
 ghost use Rattle.std.specs.Prelude.{◌≡◌, ◌<◌, ◌++◌, ◌^◌, IfOk, IfSome};
 ghost use Rattle.std.specs.List.{All, flat_map};
+ghost use Rattle.bl_text.specs.Items.{items_of};
+ghost use Rattle.bl_text.specs.Lines.{lines_of};
 ghost use Rattle.bl_counts.specs.CountFiles.{IsCountFile, commands_of, count_file_of, counts_text, site_in, site_of, site_text, with_commands};
-ghost use Rattle.bl_trace.specs.Items.{items_of};
-ghost use Rattle.bl_trace.specs.Lines.{lines_of};
 
 use crate::counts::SiteCount;
 use crate::error::CountFileError;
 use bl_base::{List, NoMemory, Pos};
-use bl_text::read_decimal;
-use bl_trace::place_of;
+use bl_text::{Lines, place_of, read_decimal};
 use std::alloc::Global;
 
 /// What a count file says.
@@ -49,16 +48,13 @@ fn read_sites(alloc: Global, commands: u64, bytes: &[u8]) -> Result<CountFile, C
     ensures small { IfOk result (λ file. All (λ one. one.count < 2 ^ 32) file.counts) }
 {
     let mut counts = List::new(alloc);
-    let mut at = 0;
     let mut number = 0u64;
-    while at < bytes.len() {
+    for line in Lines::of(bytes) {
         number += 1;
-        let end = at + place_of(&bytes[at..], b'\n');
-        let Some(site) = read_site(&bytes[at..end]) else {
+        let Some(site) = read_site(line) else {
             return Err(CountFileError::Line(number + 1));
         };
         counts.push(site)?;
-        at = end + 1;
     }
     Ok(CountFile { commands, counts })
 }

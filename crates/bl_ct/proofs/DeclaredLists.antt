@@ -4,9 +4,9 @@ use Rattle.std.specs.Prelude.{IsSomeAnd, option_map}
 use Rattle.std.specs.List.{Contains, slice_index_or}
 use Rattle.std.proofs.lemmas.Option.{none-some, slice_get_within, slice_get-get_or, same_Some}
 use Rattle.bl_base.proofs.Lists.{all_get, within_get}
-use Rattle.bl_base.specs.declared.names.Label.{Label}
 use Rattle.bl_base.specs.declared.number.Var.{Var}
 use Rattle.bl_base.specs.declared.names.Label.TheVariants as label
+use Rattle.bl_base.proofs.Members.{in_map, from_map}
 use Rattle.bl_cmd.specs.Layout.{command_at, first_of, params_of, results_of, statics}
 use Rattle.bl_cmd.specs.Rules.{IsFunction, IsWellFormed}
 use Rattle.bl_cmd.specs.declared.command.Command.{Command}
@@ -22,12 +22,11 @@ use Rattle.bl_cmd.proofs.Layouts.{first_above, first_below, next_first, number_i
 use Rattle.bl_graph.specs.FirstVariables.{firsts_from}
 use Rattle.bl_graph.specs.Graphs.{use_of}
 use Rattle.bl_graph.proofs.FirstVariableLemmas.{firsts_at, firsts_length}
-use Rattle.bl_graph.proofs.Members.{in_map, from_map}
 use Rattle.bl_ct.specs.Facts.{AreFacts, DeclaresOne, Gathers, SomeAt, GlobalFits, ParamFits, FunctionFits, LoadFits, StoreFits}
 use Rattle.bl_ct.specs.declared.facts.Declared.{Declared}
 use Rattle.bl_ct.specs.declared.facts.SecretLoad.{SecretLoad}
 use Rattle.bl_ct.proofs.GatheredLists.{Below, gathered, gathers_as, gathers_next, gathers_nothing, gathers_one}
-use Rattle.bl_ct.proofs.KnownRanges.{found, secret_public}
+use Rattle.bl_ct.proofs.KnownRanges.{found}
 
 -- what is known of what stands there
 pub standing : {A : Type 0} (o : Option A) (P : A → Type 0) (x : A) → o ≡ Some x → P x → IsSomeAnd o P
@@ -163,9 +162,6 @@ load_one at_ o memory old new some is =
       (λ e. subst (λ (y : SecretLoad). (y.at ≡ at_) × (o ≡ Some y.memory)) e (refl, some)),
     ))
 
-pub load_none : (at_ : ℕ) (o : Option ℕ) (old : List SecretLoad) → o ≡ None → Gathers (λ load. (load.at ≡ at_) × (o ≡ Some load.memory)) old old
-load_none at_ o old none = gathers_nothing (λ load. (load.at ≡ at_) × (o ≡ Some load.memory)) old (λ x h. none-some x.memory (sym none ∙ h.1))
-
 pub store_one : (at_ : ℕ) (o : Option Var) (var : Var) (old new : List Use) → o ≡ Some var → new ≡ old ++ use_of at_ var.0 ∷ []
     → Gathers (λ store. (store.at.0 ≡ at_) × (option_map (λ (v : Var). v.0) o ≡ Some store.var.0)) old new
 store_one at_ o var old new some is =
@@ -182,13 +178,6 @@ pub store_none : (at_ : ℕ) (o : Option Var) (old : List Use) → o ≡ None
 store_none at_ o old none =
     gathers_nothing (λ store. (store.at.0 ≡ at_) × (option_map (λ (v : Var). v.0) o ≡ Some store.var.0)) old
     (λ x h. none-some x.var.0 (sym (ap (option_map (λ (v : Var). v.0)) none) ∙ h.1))
-
-pub secret_one : (is : Label) (y : Declared) (old new : List Declared) → is ≡ label.Secret → new ≡ old ++ y ∷ []
-    → Gathers (λ one. (is ≡ label.Secret) × (one ≡ y)) old new
-secret_one is y old new secret e = gathers_one (λ one. (is ≡ label.Secret) × (one ≡ y)) old new y e (λ x. ((λ h. sym h.1), (λ same. (secret, sym same))))
-
-pub secret_none : (is : Label) (y : Declared) (old : List Declared) → is ≡ label.Public → Gathers (λ one. (is ≡ label.Secret) × (one ≡ y)) old old
-secret_none is y old public = gathers_nothing (λ one. (is ≡ label.Secret) × (one ≡ y)) old (λ x h. secret_public (sym h.0 ∙ public))
 
 -- ---- what begins a function
 

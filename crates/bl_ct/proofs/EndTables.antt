@@ -1,9 +1,9 @@
 -- Tables of ends, use by use.
-use Rattle.std.proofs.Common.{◌≡◌, ℕ, ◌+◌, ◌<◌, Bool, true, false, List, [], ◌∷◌, ◌++◌, length, set, refl, sym, ap, subst, ◌∙◌, arith, ◌⊎◌, inl, inr, Option, Some, None, replicate, length-set, slice_index, take}
+use Rattle.std.proofs.Common.{◌≡◌, ℕ, ◌+◌, ◌<◌, Bool, true, false, List, [], ◌∷◌, ◌++◌, length, set, sym, ap, subst, ◌∙◌, ◌⊎◌, inl, inr, Option, Some, None, replicate, length-set, slice_index, take}
 use Rattle.std.specs.Prelude.{IsTrue, ◌↔◌, is_some}
 use Rattle.std.specs.List.{Contains}
-use Rattle.std.proofs.lemmas.Bool.{cases_lt, cases_eq, false≢true}
-use Rattle.std.proofs.lemmas.List.{get_or-set_same, get_or-set_other, get_or_past, get_or-replicate, length-replicate, take_more}
+use Rattle.std.proofs.lemmas.Bool.{cases_eq, false≢true}
+use Rattle.std.proofs.lemmas.List.{get_or-set_same, get_or-set_other, length-replicate, take_more}
 use Rattle.std.proofs.lemmas.List.Elements.{Contains-push_cases, Contains-append_left, Contains-push}
 use Rattle.std.proofs.lemmas.Option.{same_Some}
 use Rattle.bl_base.proofs.Lists.{replicate_or}
@@ -18,16 +18,7 @@ use Rattle.bl_ct.specs.Facts.{AreFacts}
 use Rattle.bl_ct.specs.declared.facts.Facts.{Facts}
 use Rattle.bl_graph.specs.Arcs.{is_in}
 use Rattle.bl_ct.specs.SecretSearch.{entry_of, mark_of, IsTable, IsNoted, AreEnds, MarksWriters, KeptAt}
-use Rattle.bl_graph.proofs.Members.{none_in}
 use Rattle.bl_ct.proofs.NameTables.{at_name, at_others}
-
-pub note_none : (names : List ℕ) (ends : List (Option ℕ)) → IsNoted names [] ends ends
-note_none names ends = record {
-  places = refl;
-  sound = λ x e h. inl h;
-  kept = λ x h. h;
-  full = λ x e h. absurd (none_in (use_of e x) h);
-}
 
 -- one use more
 pub note_more : (names : List ℕ) (uses : List Use) (u : Use) (old new : List (Option ℕ)) → IsTable names new → Contains names u.var.0 → IsNoted names uses old new
@@ -114,9 +105,6 @@ kept_no uses marks kept u cold old v = (
   ],
 )
 
-pub kept_none : (marks : List Bool) → KeptAt [] marks []
-kept_none marks v = (λ h. absurd (none_in v h), λ both. absurd (none_in v both.0))
-
 -- one write more
 pub gives_yes : (writes : List Use) (names : List ℕ) (demanded giving : List Bool) (u : Use) → u.at.0 < length giving → IsTrue (mark_of names demanded u.var.0)
     → MarksWriters writes names demanded giving → MarksWriters (writes ++ u ∷ []) names demanded (set giving u.at.0 true)
@@ -146,18 +134,6 @@ gives_no writes names demanded giving u cold old s = (
     | inr e ↦ absurd (false≢true (sym cold ∙ subst (λ y. IsTrue (mark_of names demanded y)) (sym (ap (λ (v : Use). v.var.0) e)) w.2))
   ],
 )
-
-pub gives_none : (n : ℕ) (names : List ℕ) (demanded : List Bool) → MarksWriters [] names demanded (replicate n false)
-gives_none n names demanded s = (
-  λ h. absurd (false≢true (sym (clear s) ∙ h)),
-  λ w. absurd (none_in (use_of s w.0) w.1),
-) where
-  clear : (v : ℕ) → is_in (replicate n false) v ≡ false
-  clear v =
-      elim (cases_lt v n) as (λ _. is_in (replicate n false) v ≡ false) [
-        | inl lt ↦ get_or-replicate n v false false lt
-        | inr past ↦ get_or_past (replicate n false) v false (let e = length-replicate {A = Bool} n false in omega arith)
-      ]
 
 -- one mark more
 pub marked_more : (names : List ℕ) (marks : List Bool) (list : List ℕ) (i : ℕ) → i < length list → IsTable names marks → Contains names (slice_index list i)

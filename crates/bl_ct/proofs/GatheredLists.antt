@@ -4,7 +4,7 @@ use Rattle.std.specs.List.{Contains}
 use Rattle.std.proofs.lemmas.Bool.{cases_lt}
 use Rattle.std.proofs.lemmas.List.Elements.{Contains-push_cases, Contains-append_left, Contains-push}
 use Rattle.std.proofs.lemmas.Option.{slice_get_within, same_Some}
-use Rattle.bl_graph.proofs.Members.{none_in}
+use Rattle.bl_base.proofs.Members.{none_in}
 use Rattle.bl_ct.specs.Facts.{Gathers, SomeAt}
 
 -- it fits one of the first so many items

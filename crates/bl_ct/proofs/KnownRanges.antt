@@ -7,6 +7,7 @@ use Rattle.std.proofs.lemmas.Option.{slice_get_within, same_Some}
 use Rattle.bl_base.proofs.Lists.{all_get, within_get}
 use Rattle.bl_base.specs.declared.names.Label.{Label}
 use Rattle.bl_base.specs.declared.names.Label.TheVariants as label
+use Rattle.bl_base.proofs.Members.{in_map, from_map}
 use Rattle.bl_cmd.specs.Layout.{command_at, statics, params_of, results_of, result}
 use Rattle.bl_cmd.specs.Programs.{IsProgram}
 use Rattle.bl_cmd.specs.Rules.{IsWellFormed, IsDemand, IsFunction, IsOwn, operands_of}
@@ -27,7 +28,6 @@ use Rattle.bl_graph.specs.declared.secret.Origin.TheVariants.{Parameter, Global,
 use Rattle.bl_graph.specs.Graphs.{use_of}
 use Rattle.bl_graph.specs.Labels.{Secret, declared, loaded, moved}
 use Rattle.bl_graph.specs.Names.{AreNames}
-use Rattle.bl_graph.proofs.Members.{in_map, from_map}
 use Rattle.bl_graph.proofs.NameLemmas.{Rise, few_names}
 use Rattle.bl_graph.proofs.RangeLemmas.{in_range, param_small, operand_small}
 use Rattle.bl_ct.specs.Facts.{AreFacts, AreSecretsInRange, IsKnown, NamesAll, vars_of}

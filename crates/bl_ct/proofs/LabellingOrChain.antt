@@ -3,6 +3,7 @@ use Rattle.std.proofs.Common.{◌≡◌, ℕ, List, [], ◌∷◌, refl, sym, ap
 use Rattle.std.specs.Prelude.{IsTrue}
 use Rattle.std.proofs.lemmas.Bool.{not_from_false, false_from_ne_true}
 use Rattle.bl_base.specs.declared.number.Pos.{Pos}
+use Rattle.bl_base.proofs.Decisions.{decided_below, decided_in}
 use Rattle.bl_cmd.specs.Sites.{Among, SinkReads, sunk_by}
 use Rattle.bl_cmd.specs.declared.definitions.ProgramParts.{ProgramParts as Program}
 use Rattle.bl_graph.specs.Labels.{AssignsLabels, ConstantTime, Secret, declared, loaded, moved}
@@ -13,7 +14,6 @@ use Rattle.bl_graph.specs.declared.secret.Origin.{Origin}
 use Rattle.bl_graph.specs.declared.secret.Origin.TheVariants.{Parameter, Global, Memory}
 use Rattle.bl_graph.specs.declared.secret.SecretChain.{SecretChain}
 use Rattle.bl_graph.proofs.CommandLists.{decided_sink, stands_below}
-use Rattle.bl_graph.proofs.Decisions.{decided_below, decided_in}
 use Rattle.bl_ct.specs.Facts.{AreSecretsInRange}
 use Rattle.bl_ct.proofs.DeclaredLists.{demand_stands}
 use Rattle.bl_ct.proofs.SecretTest.{decided_secret, decided_store, is_tested, labelling}

@@ -1,7 +1,6 @@
 pub mod SecretTest
 pub mod DeclaredLists
 pub mod EndTables
-pub mod ChainExclusion
 pub mod LabellingOrChain
 pub mod GatheredLists
 pub mod CtVerdicts

@@ -5,6 +5,7 @@ use Rattle.std.specs.List.{All, Contains, slice_index_or}
 use Rattle.std.proofs.lemmas.Bool.{cases_lt}
 use Rattle.std.proofs.lemmas.List.{get_or_past}
 use Rattle.std.proofs.lemmas.List.Elements.{Contains-get_or}
+use Rattle.bl_base.proofs.Members.{in_map, from_map, none_in}
 use Rattle.bl_cmd.specs.Sites.{Reads}
 use Rattle.bl_graph.specs.Graphs.{use_of}
 use Rattle.bl_graph.specs.Names.{place_of}
@@ -14,7 +15,6 @@ use Rattle.bl_graph.specs.declared.arcs.Arc.{Arc}
 use Rattle.bl_ct.specs.Facts.{IsKnown}
 use Rattle.bl_graph.specs.Arcs.{RowsOf, row_at}
 use Rattle.bl_ct.specs.SecretSearch.{from_name}
-use Rattle.bl_graph.proofs.Members.{in_map, from_map, none_in}
 use Rattle.bl_graph.proofs.NameLemmas.{Rise, place_within}
 use Rattle.bl_ct.proofs.KnownRanges.{reads_in}
 use Rattle.bl_ct.proofs.NameTables.{place_own, within_has}

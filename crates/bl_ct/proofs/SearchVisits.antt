@@ -8,6 +8,7 @@ use Rattle.std.proofs.lemmas.List.Sums.{sum_by-set}
 use Rattle.std.proofs.lemmas.List.Elements.{Contains-push_cases, Contains-append_left, Contains-append_right, Contains-append_cases, Contains-push}
 use Rattle.std.proofs.lemmas.Option.{slice_get_within, get_or_from_slice_get, slice_get-get_or, same_Some}
 use Rattle.bl_base.proofs.Lists.{replicate_or}
+use Rattle.bl_base.proofs.Members.{none_in, listed, lists}
 use Rattle.bl_cmd.specs.declared.definitions.ProgramParts.{ProgramParts as Program}
 use Rattle.bl_ct.specs.declared.search.Step.{Step}
 use Rattle.bl_ct.specs.declared.search.Cause.{Cause}
@@ -19,7 +20,6 @@ use Rattle.bl_ct.specs.Facts.{AreFacts}
 use Rattle.bl_ct.specs.declared.facts.Facts.{Facts}
 use Rattle.bl_graph.specs.Arcs.{unmarked}
 use Rattle.bl_ct.specs.SecretSearch.{IsTable, Visits, Some_fits, Some_asks, IsFoundBy, entry_at, is_found, mark_of, Has, IsJustifiedBy, AreJustified, SearchState, Searched}
-use Rattle.bl_graph.proofs.Members.{none_in, listed, lists}
 use Rattle.bl_ct.proofs.NameTables.{at_name, at_others, table_within}
 
 -- ---- whether a step found a variable
@@ -45,9 +45,6 @@ visits_all names fits asks marks queue there = record {
   causes = λ step h. absurd (none_in step h);
   counts = refl;
 }
-
-pub visits_none : {A : Type 0} (names : List ℕ) (fits : A → Step → Type 0) (asks : A → ℕ → Type 0) (marks : List Bool) (queue : List Step) → Visits names (Some_fits [] fits) (Some_asks [] asks) marks marks queue queue
-visits_none names fits asks marks queue = visits_all names (Some_fits [] fits) (Some_asks [] asks) marks queue (λ v h. absurd (none_in h.0 h.1))
 
 -- what one more element asks for is visited
 pub visits_push : {A : Type 0} (names : List ℕ) (fits : A → Step → Type 0) (asks : A → ℕ → Type 0) (xs : List A) (x : A) (a b c : List Bool) (p q r : List Step)

@@ -5,6 +5,7 @@ use Rattle.std.proofs.lemmas.Bool.{cases_eq}
 use Rattle.std.proofs.lemmas.Option.{slice_get_within}
 use Rattle.bl_base.specs.declared.names.Label.{Label}
 use Rattle.bl_base.specs.declared.names.Label.TheVariants as label
+use Rattle.bl_base.proofs.Decisions.{Decided, decided_as, decided_below, decided_both, decided_either, decided_some, holds, holds_if, if_holds}
 use Rattle.bl_cmd.proofs.TableLemmas.{and_some}
 use Rattle.bl_cmd.specs.Layout.{command_at, param}
 use Rattle.bl_cmd.specs.Sites.{Writes}
@@ -19,7 +20,6 @@ use Rattle.bl_graph.specs.declared.secret.Origin.{Origin}
 use Rattle.bl_graph.specs.declared.secret.Origin.TheVariants.{Parameter, Global, Memory}
 use Rattle.bl_graph.proofs.Closures.{Reached, decided_reached, reached_least, reached_on}
 use Rattle.bl_graph.proofs.CommandLists.{decided_write, stands_below}
-use Rattle.bl_graph.proofs.Decisions.{Decided, decided_as, decided_below, decided_both, decided_either, decided_some, holds, holds_if, if_holds}
 use Rattle.bl_ct.proofs.KnownRanges.{secret_public}
 
 decided_secret_label : (is : Label) → Decided (is ≡ label.Secret)

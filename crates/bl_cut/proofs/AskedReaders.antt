@@ -7,14 +7,14 @@ use Rattle.std.proofs.lemmas.List.{take_more}
 use Rattle.std.proofs.lemmas.List.Elements.{Contains-append_cases, Contains-append_left, Contains-append_right, Contains-push, Contains-push_cases}
 use Rattle.std.proofs.lemmas.Option.{same_Some}
 use Rattle.bl_base.specs.declared.number.Pos.{Pos}
+use Rattle.bl_base.proofs.Members.{none_in}
 use Rattle.bl_graph.specs.Arcs.{is_in}
 use Rattle.bl_graph.specs.Graphs.{use_of}
 use Rattle.bl_graph.specs.Names.{place_of}
 use Rattle.bl_graph.specs.declared.facts.Graph.{Graph}
 use Rattle.bl_graph.specs.declared.facts.Use.{Use}
-use Rattle.bl_graph.proofs.Members.{none_in}
 use Rattle.bl_graph.proofs.NameLemmas.{Rise}
-use Rattle.bl_transient.proofs.AskedLists.{Marks, number_back, number_of}
+use Rattle.bl_graph.proofs.AskedLists.{Marks, number_back, number_of}
 use Rattle.bl_cut.specs.Network.{AreReaders, Begins, ReadsOne, var_node}
 
 module _ (old vars : List ℕ) where

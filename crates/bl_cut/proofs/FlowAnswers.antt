@@ -22,13 +22,13 @@ use Rattle.bl_graph.specs.declared.facts.Graph.{Graph}
 use Rattle.bl_transient.specs.Transient.{Asked, nothing}
 use Rattle.bl_transient.specs.Verdicts.{asked_of}
 use Rattle.bl_transient.specs.declared.asked.AskedOf.{AskedOf}
-use Rattle.bl_transient.proofs.AskedLists.{asked_in}
 use Rattle.bl_cut.specs.Choices.{IsFlowOf, KnowsSinks, KnowsIn, path_of, EndsAtVar}
 use Rattle.bl_cut.specs.Least.{Least, LeastUnder}
 use Rattle.bl_cut.specs.Marks.{protected}
 use Rattle.bl_graph.specs.Names.{place_of}
 use Rattle.bl_cut.specs.Network.{node_of, IsBarred, IsNetwork, IsNetworkUnder}
 use Rattle.bl_graph.proofs.NameLemmas.{place_within}
+use Rattle.bl_graph.proofs.AskedLists.{asked_in}
 use Rattle.bl_cut.proofs.NearestCuts.{certified, nearest_least, nearest_sites, nearest_weighs, last_at, last_place}
 use Rattle.bl_cut.proofs.MarkedPrograms.{certifies_on}
 

@@ -8,18 +8,18 @@ use Rattle.std.proofs.lemmas.List.Elements.{Contains-append_left, Contains-appen
 use Rattle.bl_base.specs.Sums.{sum_below}
 use Rattle.bl_base.proofs.Sums.{sum_le, sum_plus, sum_tight, sum_bound}
 use Rattle.bl_base.proofs.BoolLemmas.{never_both}
+use Rattle.bl_base.proofs.Members.{first_in, later_in, in_cases, in_map, from_map, none_in}
+use Rattle.bl_base.proofs.Decisions.{Decided, decided_below, decided_both, decided_either, decided_false, decided_true, holds, holds_if, if_holds}
 use Rattle.bl_cmd.specs.Sites.{Among, site_weight, IsSite, Writes, SinkReads, sunk_by, weight_of}
 use Rattle.bl_cmd.specs.declared.definitions.ProgramParts.{ProgramParts as Program}
 use Rattle.bl_graph.specs.Ranges.{commands, variables, AreSites, AreInRange}
 use Rattle.bl_graph.proofs.PathCounts.{amount_if, once}
-use Rattle.bl_graph.proofs.Members.{first_in, later_in, in_cases, in_map, from_map, none_in}
 use Rattle.bl_transient.specs.Transient.{Asked, AssignsUnder, PassesUnder, TransUnder, loaded, moved, given}
 use Rattle.bl_graph.proofs.CommandLists.{decided_sink, stands_below}
-use Rattle.bl_graph.proofs.Decisions.{Decided, decided_below, decided_both, decided_either, decided_false, decided_true, holds, holds_if, if_holds}
+use Rattle.bl_graph.proofs.FedSites.{feeds, writes_stable, crossed_by, fed_load, fed_read, fed_how, stable_write, stable_how}
 use Rattle.bl_transient.proofs.LeastTypings.{is_trans, trans_least, passing_firm, passing_sinks, least_typing, least_assigns, typing_trans}
 use Rattle.bl_cut.specs.Least.{LeastUnder}
 use Rattle.bl_cut.specs.Network.{IsBarred}
-use Rattle.bl_cut.proofs.FedSites.{feeds, writes_stable, crossed_by, fed_load, fed_read, fed_how, stable_write, stable_how}
 
 -- a list's answer at a place; no past its end
 abbrev is_in : List Bool → ℕ → Bool

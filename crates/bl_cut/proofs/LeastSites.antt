@@ -9,10 +9,10 @@ use Rattle.bl_cmd.specs.Sites.{site_weight, Writes, weight_of}
 use Rattle.bl_cmd.specs.declared.definitions.ProgramParts.{ProgramParts as Program}
 use Rattle.bl_graph.specs.Ranges.{commands, AreSites, AreInRange}
 use Rattle.bl_graph.proofs.PathCounts.{amount_if}
+use Rattle.bl_graph.proofs.FedSites.{feeds, writes_stable, crossed_by, fed_load, fed_read, fed_how, stable_write, stable_how}
 use Rattle.bl_transient.specs.Transient.{Asked, PassesUnder, TransUnder, IsFedUnder}
 use Rattle.bl_transient.proofs.LeastTypings.{is_trans, typing_trans, least_typing, least_assigns, fed_writes, passing_firm, passing_sinks}
 use Rattle.bl_cut.specs.Least.{LeastUnder}
-use Rattle.bl_cut.proofs.FedSites.{feeds, writes_stable, crossed_by, fed_load, fed_read, fed_how, stable_write, stable_how}
 
 -- a set without one site
 abbrev pub without : (ℕ → Bool) → ℕ → ℕ → Bool

@@ -2,7 +2,6 @@ pub mod FlowAnswers
 pub mod NearestCuts
 pub mod PassingCuts
 pub mod LeastExists
-pub mod FedSites
 pub mod MarkedGraphs
 pub mod TransientNodes
 pub mod LeastSites
@@ -12,5 +11,4 @@ pub mod NetworkLemmas
 pub mod MarksAndPassing
 pub mod AskedReaders
 pub mod MarkSteps
-pub mod VariableSinks
 pub mod NetworkWalks

@@ -5,6 +5,7 @@ use Rattle.std.specs.List.{All, count_by}
 use Rattle.std.proofs.lemmas.Bool.{eqb-true, false≢true, lt-ltb}
 use Rattle.std.proofs.lemmas.List.Elements.{All-contains}
 use Rattle.bl_base.specs.declared.number.Pos.{Pos}
+use Rattle.bl_base.proofs.Members.{from_map}
 use Rattle.bl_cmd.specs.Sites.{IsLoad, SinkReads, site_weight, weight_of}
 use Rattle.bl_cmd.specs.declared.definitions.ProgramParts.{ProgramParts as Program}
 use Rattle.bl_flow.specs.declared.network.NodePath.{NodePath}
@@ -19,7 +20,6 @@ use Rattle.bl_graph.specs.Ranges.{commands, AreSites, AreInRange}
 use Rattle.bl_graph.specs.declared.certificate.FlowPath.{FlowPath}
 use Rattle.bl_graph.proofs.ChainLemmas.{all_from, amount_of, chain_sites, crossed_most}
 use Rattle.bl_graph.proofs.PathCounts.{crossed_once, any_counted, count_filter, sum_map, sum_alike}
-use Rattle.bl_graph.proofs.Members.{from_map}
 use Rattle.bl_transient.specs.Transient.{Asked, nothing}
 use Rattle.bl_transient.proofs.ChainsMet.{chain_met}
 use Rattle.bl_flow.specs.MaxFlow.{IsMaxFlow}

@@ -6,6 +6,7 @@ use Rattle.std.proofs.lemmas.Bool.{cases_eq, cases_lt}
 use Rattle.std.proofs.lemmas.List.{take_more, get_or-set_same, get_or-set_other, get_or-replicate, get_or_past, length-replicate, take_all}
 use Rattle.std.proofs.lemmas.List.Elements.{All-contains, Contains-append_left, Contains-append_right, Contains-append_cases, Contains-push_cases}
 use Rattle.bl_base.specs.declared.number.Pos.{Pos}
+use Rattle.bl_base.proofs.Members.{in_map, from_map, none_in}
 use Rattle.bl_cmd.specs.Sites.{site_weight, IsSite, IsLoad, Writes, Reads}
 use Rattle.bl_cmd.specs.declared.definitions.ProgramParts.{ProgramParts as Program}
 use Rattle.bl_flow.specs.declared.network.Arc.{Arc}
@@ -15,12 +16,11 @@ use Rattle.bl_graph.specs.Ranges.{commands, AreInRange}
 use Rattle.bl_graph.specs.declared.facts.Use.{Use}
 use Rattle.bl_graph.specs.declared.facts.Graph.{Graph}
 use Rattle.bl_graph.proofs.ChainLemmas.{all_from}
-use Rattle.bl_graph.proofs.Members.{in_map, from_map, none_in}
 use Rattle.bl_graph.proofs.NameLemmas.{few_names, place_within}
 use Rattle.bl_graph.proofs.RangeLemmas.{site_writes}
+use Rattle.bl_graph.proofs.AskedLists.{asked_in, in_asked}
 use Rattle.bl_transient.specs.Transient.{Asked}
 use Rattle.bl_transient.specs.Verdicts.{asked_of}
-use Rattle.bl_transient.proofs.AskedLists.{asked_in, in_asked}
 use Rattle.bl_cut.specs.Network.{node_of, ArcKind, write, read, IsBarred, IsEndUnder, IsAskedNode, IsFirstSite, IsNetworkUnder, Begins, write_arc, read_arc, sink_node, var_node, noted}
 
 module _ (program : Program) (g : Graph) (lists : IsGraph program g) (names : List ℕ) (are : AreNames program names) where

@@ -7,6 +7,7 @@ use Rattle.std.proofs.lemmas.Bool.{cases_Bool, not_from_false}
 use Rattle.bl_base.specs.Sums.{sum_below}
 use Rattle.bl_base.proofs.Sums.{sum_same, sum_front}
 use Rattle.bl_base.proofs.BoolLemmas.{never_both}
+use Rattle.bl_base.proofs.Members.{any_here, any_in, any_later, in_any}
 use Rattle.bl_cmd.specs.Sites.{IsSite, site_weight, weight_of}
 use Rattle.bl_cmd.specs.declared.definitions.ProgramParts.{ProgramParts as Program}
 use Rattle.bl_flow.specs.declared.network.Arc.{Arc}
@@ -16,7 +17,6 @@ use Rattle.bl_flow.specs.Cuts.{IsCut, Meets, cut_weight}
 use Rattle.bl_graph.specs.Ranges.{commands, AreSites, AreInRange}
 use Rattle.bl_graph.proofs.ChainLemmas.{all_from}
 use Rattle.bl_graph.proofs.PathCounts.{amount_if}
-use Rattle.bl_graph.proofs.Members.{any_here, any_in, any_later, in_any}
 use Rattle.bl_transient.specs.Transient.{Asked, PassesUnder, TransUnder}
 use Rattle.bl_transient.proofs.LeastTypings.{passes_under_if, passing_firm, passing_sinks}
 use Rattle.bl_cut.specs.Network.{node_of, ArcKind, write, read, IsBarred, IsEndUnder, IsFirstSite, IsAskedNode, IsNetworkUnder}

@@ -26,6 +26,7 @@ use Rattle.bl_rob.specs.declared.entry.Work.TheVariants.{Nop, Assign, Load, Held
 use Rattle.bl_rob.proofs.BufferInvariant.{Holds, Stays, Kept, split, is_running, acted_ok, stays, step_ok, all_kept, kept_consistent, opening_kept}
 use Rattle.bl_rob.proofs.PlainTracks.{Config, value_in, run_on, IsLoad, stands_there, Tracks, Along, committed, entry_at, source_below, space_behind, value_ok, Says}
 use Rattle.bl_sct.proofs.StepAgreement.{LiesIn, InsideOf, inside_from, plain_of}
+use Rattle.bl_sct.proofs.Loads.{IsOpened, opened_by, within, reached_run, ran_reached, ran_long}
 use Rattle.bl_forward.specs.declared.find.Found.{Found}
 use Rattle.bl_forward.specs.declared.find.Found.TheVariants.{Memory, Stored, Blocked}
 use Rattle.bl_forward.specs.ForwardMachines.{found_in, turned_by, turned_from, turned, plainly, stepped, exec_work, exec_at, forward_step}
@@ -34,7 +35,6 @@ use Rattle.bl_forward.specs.declared.load.Turn.TheVariants as turn
 use Rattle.bl_forward.specs.declared.seen.Seen.{Seen}
 use Rattle.bl_forward.specs.declared.seen.Seen.TheVariants.{Plain, Forward}
 use Rattle.bl_forward.proofs.ReadyStores.{Right, all}
-use Rattle.bl_forward.proofs.Loads.{IsOpened, opened_by, within, reached_run, ran_reached, ran_long}
 
 pub plainly_holds : (P : State → Type 0) (o : Option (State × Observation)) → Holds P o → Holds P (plainly o)
 plainly_holds P None h = tt

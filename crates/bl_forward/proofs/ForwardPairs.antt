@@ -23,15 +23,16 @@ use Rattle.bl_rob.specs.declared.entry.Work.{Work}
 use Rattle.bl_rob.specs.declared.entry.Work.TheVariants.{Nop, Assign, Load, Held, Done, Store, Ready, Guard, Fail}
 use Rattle.bl_rob.proofs.BufferInvariant.{Kept, Ran, split}
 use Rattle.bl_rob.proofs.PlainTracks.{Tracks, entry_at}
+use Rattle.bl_rob.proofs.OtherGlobals.{with_globals, step_same}
 use Rattle.bl_sct.proofs.StepAgreement.{AgreeIn}
 use Rattle.bl_sct.proofs.Entries.{Same, equal, held, done, ready, SameAll, none, more, AlikeAt, clear_source, same_kinds, same_take, same_drop, same_append, valued_same}
 use Rattle.bl_sct.proofs.Relation.{Rel, Twin, SameGet, no_entry, an_entry, same_get, runs_there, pair_of, clear_in, step_twins}
 use Rattle.bl_sct.proofs.Rules.{Keeps, clear}
 use Rattle.bl_sct.proofs.LockstepLemmas.{Twins}
 use Rattle.bl_sct.proofs.EqualObservations.{equal_by}
-use Rattle.bl_sct.proofs.OtherGlobals.{with_globals, step_same}
 use Rattle.bl_sct.proofs.OtherSecrets.{hides_by}
 use Rattle.bl_sct.specs.OtherSecrets.{HidesGlobalsBy}
+use Rattle.bl_sct.proofs.Loads.{opened_by}
 use Rattle.bl_forward.specs.declared.find.Found.{Found}
 use Rattle.bl_forward.specs.declared.find.Found.TheVariants.{Memory, Stored, Blocked}
 use Rattle.bl_forward.specs.ForwardMachines.{meets, supplied, found_from, found_in, turned_by, turned_from, turned, plainly, stepped, exec_work, exec_at, forward_step, HasEqualForwarding}
@@ -40,7 +41,6 @@ use Rattle.bl_forward.specs.declared.load.Turn.TheVariants as turn
 use Rattle.bl_forward.specs.declared.seen.Seen.{Seen}
 use Rattle.bl_forward.specs.declared.seen.Seen.TheVariants.{Plain as Shown, Forward}
 use Rattle.bl_forward.proofs.ForwardInvariant.{forward_ok}
-use Rattle.bl_forward.proofs.Loads.{opened_by}
 
 -- ---- entries that differ in values alone forward alike
 

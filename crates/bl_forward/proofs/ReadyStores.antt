@@ -10,6 +10,7 @@ use Rattle.bl_ops.specs.declared.access.AccessKind.{AccessKind}
 use Rattle.bl_ops.proofs.Fits.{store_fits}
 use Rattle.bl_cmd.specs.Steps.{effective, overlay}
 use Rattle.bl_cmd.specs.declared.definitions.ProgramParts.{ProgramParts as Program}
+use Rattle.bl_cmd.proofs.ByteAgreement.{parts, overlay_other}
 use Rattle.bl_bytes.proofs.OverlayLemmas.{overlay_length, overlay_next}
 use Rattle.bl_rob.specs.declared.entry.Entry.{Entry}
 use Rattle.bl_rob.specs.declared.entry.Work.{Work}
@@ -18,7 +19,6 @@ use Rattle.bl_rob.proofs.PlainTracks.{over, space_behind}
 use Rattle.bl_forward.specs.declared.find.Found.{Found}
 use Rattle.bl_forward.specs.declared.find.Found.TheVariants.{Memory, Stored, Blocked}
 use Rattle.bl_forward.specs.ForwardMachines.{meets, supplies, supplied, found_from}
-use Rattle.bl_sct.proofs.ByteAgreement.{parts, overlay_other}
 
 -- ---- bytes
 

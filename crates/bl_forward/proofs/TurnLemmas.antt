@@ -27,6 +27,7 @@ use Rattle.bl_rob.proofs.BufferInvariant.{Holds}
 use Rattle.bl_rob.proofs.PolicyLemmas.{told_enabled, told_steps}
 use Rattle.bl_rob.proofs.ReachabilityLemmas.{KeepAll}
 use Rattle.bl_rob.proofs.BufferRoom.{Fits, acted_fits, comes_fit, executes, step_fits, within}
+use Rattle.bl_sct.proofs.Loads.{opened_by}
 use Rattle.bl_forward.specs.ForwardMachines.{exec_at, found_behind, found_from, found_in, forward_step, plainly, stepped, supplied, turned, turned_at, turned_where}
 use Rattle.bl_forward.specs.declared.find.Found.{Found}
 use Rattle.bl_forward.specs.declared.find.Found.TheVariants.{Memory, Stored, Blocked}
@@ -35,7 +36,6 @@ use Rattle.bl_forward.specs.declared.load.Turn.TheVariants as turn
 use Rattle.bl_forward.specs.declared.seen.Seen.{Seen}
 use Rattle.bl_forward.specs.declared.seen.Seen.TheVariants.{Plain as Shown}
 use Rattle.bl_forward.proofs.ForwardInvariant.{forward_ok, plainly_holds}
-use Rattle.bl_forward.proofs.Loads.{opened_by}
 
 -- ---- the step of an entry, by what it comes to
 

@@ -7,6 +7,7 @@ use Rattle.std.proofs.lemmas.List.Elements.{All-contains, All-cons, All-nil, Con
 use Rattle.bl_base.proofs.Sums.{sum_le}
 use Rattle.bl_base.proofs.BoolLemmas.{never_both}
 use Rattle.bl_base.proofs.OptionLemmas.{some_value}
+use Rattle.bl_base.proofs.Members.{any_here, any_later}
 use Rattle.bl_cmd.specs.Sites.{IsLoad, Writes, Reads, SinkReads, site_weight, weight_of}
 use Rattle.bl_cmd.specs.declared.definitions.ProgramParts.{ProgramParts as Program}
 use Rattle.bl_graph.specs.Ranges.{commands, AreSites, AreInRange}
@@ -14,7 +15,6 @@ use Rattle.bl_graph.specs.Chains.{Carries, IsChain}
 use Rattle.bl_graph.specs.Certificates.{sites_of, flow_through, IsFlowPath, CertifiesSet}
 use Rattle.bl_graph.specs.declared.certificate.FlowPath.{FlowPath}
 use Rattle.bl_graph.specs.declared.certificate.Certificate.{Certificate}
-use Rattle.bl_graph.proofs.Members.{any_here, any_later}
 use Rattle.bl_graph.proofs.PathCounts.{amount_if, crossed, both_counts, crossed_least, any_counted}
 
 -- a property of each element, from one of what is contained

@@ -5,6 +5,8 @@ use Rattle.std.specs.List.{Contains}
 use Rattle.std.proofs.lemmas.Option.{none-some, same_Some, slice_get_within}
 use Rattle.std.proofs.lemmas.List.Elements.{Contains-append_cases, Contains-append_left, Contains-append_right}
 use Rattle.bl_base.proofs.Sums.{last_or_before}
+use Rattle.bl_base.proofs.Members.{first_in, from_map, in_cases, in_map, later_in, none_in}
+use Rattle.bl_base.proofs.Decisions.{Decided, decided_as, decided_in, decided_some}
 use Rattle.bl_cmd.proofs.TableLemmas.{and_some}
 use Rattle.bl_cmd.specs.Layout.{command_at}
 use Rattle.bl_cmd.specs.Sites.{Among, IsLoad, Loads, Reads, SinkReads, Writes, moved_by, sunk_by, written_by}
@@ -16,8 +18,6 @@ use Rattle.bl_cmd.specs.declared.definitions.ProgramParts.{ProgramParts as Progr
 use Rattle.bl_graph.specs.Graphs.{use_of}
 use Rattle.bl_graph.specs.Ranges.{commands}
 use Rattle.bl_graph.specs.declared.facts.Use.{Use}
-use Rattle.bl_graph.proofs.Decisions.{Decided, decided_as, decided_in, decided_some}
-use Rattle.bl_graph.proofs.Members.{first_in, from_map, in_cases, in_map, later_in, none_in}
 
 -- the variables among operands
 abbrev pub names : List Operand → List ℕ

@@ -2,7 +2,6 @@ pub mod ChainLemmas
 pub mod PathCounts
 pub mod FirstVariableLemmas
 pub mod SiteFlows
-pub mod Members
 pub mod NameLemmas
 pub mod GraphPasses
 pub mod RangeLemmas
@@ -10,8 +9,10 @@ pub mod ProtectPaths
 pub mod ArcRows
 pub mod UseRows
 pub mod WrittenTables
-pub mod VariableSums
 pub mod RisingLists
 pub mod Closures
 pub mod CommandLists
-pub mod Decisions
+pub mod AskedLists
+pub mod FedSites
+pub mod VariableSinks
+pub mod ChainExclusion

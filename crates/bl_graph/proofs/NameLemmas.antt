@@ -13,11 +13,11 @@ use Rattle.std.proofs.lemmas.List.Sorted.{searched, Contains-permutation, IsPerm
 use Rattle.std.proofs.lemmas.Map.Keys.{IsStrictlyIncreasing-dedup}
 use Rattle.std.specs.List.Retain.{IsFiltered, DiffersFromLast}
 use Rattle.std.proofs.lemmas.Option.{same_Some, slice_get-get_or, get_or_from_slice_get, slice_get_within}
+use Rattle.bl_base.proofs.Members.{first_in, later_in, none_in, in_cases, in_map}
 use Rattle.bl_graph.specs.Graphs.{use_of, IsGraph}
 use Rattle.bl_graph.specs.declared.facts.Graph.{Graph}
 use Rattle.bl_graph.specs.declared.facts.Use.{Use}
 use Rattle.bl_graph.proofs.ChainLemmas.{all_from}
-use Rattle.bl_graph.proofs.Members.{first_in, later_in, none_in, in_cases, in_map}
 use Rattle.bl_cmd.specs.declared.definitions.ProgramParts.{ProgramParts as Program}
 use Rattle.bl_graph.specs.Names.{AreNames, IsUsed, IsNamed, place_of, numbered, var_of}
 use Rattle.bl_graph.specs.Ranges.{commands, variables, AreInRange}

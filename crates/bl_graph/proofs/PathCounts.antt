@@ -7,7 +7,7 @@ use Rattle.std.proofs.lemmas.List.Sums.{sum_by-cons}
 use Rattle.std.proofs.Math.Nat.{mul-add, mul-zero, mul-suc}
 use Rattle.bl_base.specs.Sums.{sum_below}
 use Rattle.bl_base.proofs.Sums.{sum_same, sum_plus, sum_none, sum_change}
-use Rattle.bl_graph.proofs.Members.{in_any, in_cases, none_in}
+use Rattle.bl_base.proofs.Members.{in_any, in_cases, none_in}
 
 -- an amount where a test passes, and 0 elsewhere
 abbrev pub amount_if : Bool → ℕ → ℕ

@@ -8,13 +8,13 @@ use Rattle.std.proofs.lemmas.List.Sums.{sum_by-cons}
 use Rattle.std.proofs.Math.Nat.{mul-zero, mul-one}
 use Rattle.bl_base.proofs.Sums.{sum_tight}
 use Rattle.bl_base.proofs.OptionLemmas.{some_value}
+use Rattle.bl_base.proofs.Members.{first_in, later_in}
 use Rattle.bl_cmd.specs.Sites.{site_weight}
 use Rattle.bl_cmd.specs.declared.definitions.ProgramParts.{ProgramParts as Program}
 use Rattle.bl_graph.specs.Ranges.{commands, AreSites, AreInRange}
 use Rattle.bl_graph.specs.Certificates.{sites_of, flow_through, flow_of, IsFlowPath, CertifiesSet}
 use Rattle.bl_graph.specs.declared.certificate.FlowPath.{FlowPath}
 use Rattle.bl_graph.specs.declared.certificate.Certificate.{Certificate}
-use Rattle.bl_graph.proofs.Members.{first_in, later_in}
 use Rattle.bl_graph.proofs.PathCounts.{amount_if, once, count_cons, all_head, all_tail, both_counts, crossed}
 use Rattle.bl_graph.proofs.ChainLemmas.{chain_sites, share_le}
 

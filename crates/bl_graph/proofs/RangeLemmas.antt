@@ -4,10 +4,11 @@ use Rattle.std.specs.Prelude.{IsSomeAnd, IsSome, option_map, option_and_then, if
 use Rattle.std.proofs.lemmas.Bool.{cases_lt, false≢true}
 use Rattle.std.proofs.lemmas.Option.{none-some, slice_get_within, slice_get_past, same_Some}
 use Rattle.bl_base.proofs.Lists.{all_get, within_get}
+use Rattle.bl_ops.specs.OperatorTable.{is_division}
 use Rattle.bl_cmd.specs.Layout.{command_at, param, result, running, params_of, results_of, statics, Holds}
 use Rattle.bl_cmd.specs.Programs.{IsProgram}
 use Rattle.bl_cmd.specs.Rules.{IsWellFormed, IsFunction, IsOwn, IsReadable, IsWritable, Rule4, Rule6, operands_of}
-use Rattle.bl_cmd.specs.Sites.{Among, Loads, mark_of, mark_at, moved_by, sunk_by, written_by, is_division, listed, site_weight, IsSite, Writes}
+use Rattle.bl_cmd.specs.Sites.{Among, Loads, mark_of, mark_at, moved_by, sunk_by, written_by, listed, site_weight, IsSite, Writes}
 use Rattle.bl_cmd.specs.declared.command.Operand.{Operand}
 use Rattle.bl_cmd.specs.declared.command.Mark.{Mark}
 use Rattle.bl_cmd.specs.declared.command.Command.{Command}

@@ -2,11 +2,11 @@
 use Rattle.std.proofs.Common.{◌≡◌, ℕ, zero, suc, ◌<◌, List, [], ◌∷◌, sym, subst, refl, ap, ◌∙◌, arith, inl, inr}
 use Rattle.std.specs.List.{AllPairs, Contains}
 use Rattle.bl_base.specs.declared.number.Pos.{Pos}
+use Rattle.bl_base.proofs.Members.{first_in, later_in, in_cases, none_in}
 use Rattle.bl_cmd.specs.declared.definitions.ProgramParts.{ProgramParts as Program}
 use Rattle.bl_graph.specs.Graphs.{Precedes, AreUses, IsGraph}
 use Rattle.bl_graph.specs.declared.facts.Use.{Use}
 use Rattle.bl_graph.specs.declared.facts.Graph.{Graph}
-use Rattle.bl_graph.proofs.Members.{first_in, later_in, in_cases, none_in}
 
 module _ {X : Type 0} (R : X → X → Type 0) (never : (x y : X) → R x y → R y x → ⊥) where
   head : (x : X) (xs : List X) → AllPairs R (x ∷ xs) → (y : X) → Contains xs y → R x y

@@ -9,13 +9,13 @@ use Rattle.std.proofs.lemmas.List.Kept.{AllPairs-cons}
 use Rattle.std.proofs.lemmas.List.Quantifiers.{all_pairs_push}
 use Rattle.bl_base.specs.declared.number.Pos.{Pos}
 use Rattle.bl_base.specs.declared.number.Var.{Var as Variable}
+use Rattle.bl_base.proofs.Members.{first_in, later_in, in_cases, none_in, in_map, from_map}
 use Rattle.bl_cmd.specs.Sites.{Names, Among}
 use Rattle.bl_cmd.specs.declared.command.Operand.{Operand}
 use Rattle.bl_cmd.specs.declared.command.Operand.TheVariants.{Var, Const}
 use Rattle.bl_graph.specs.Graphs.{use_of, Precedes, AreUses}
 use Rattle.bl_graph.specs.UseLists.{AreBelow, ArePlacesBelow, AddsRow, IsLeastFrom, lower_of}
 use Rattle.bl_graph.specs.declared.facts.Use.{Use}
-use Rattle.bl_graph.proofs.Members.{first_in, later_in, in_cases, none_in, in_map, from_map}
 use Rattle.bl_graph.proofs.ChainLemmas.{all_from}
 
 -- one more item behind a rising list
@@ -98,14 +98,6 @@ module _ (Relates : ℕ → ℕ → Type 0) where
 
 -- ---- a row on its way: the variables below a bound
 
-pub row_none : (Has : ℕ → Type 0) (position : ℕ) (old : List Use) → AddsRow (λ x. Has x × (x < 0)) position old old
-row_none Has position old = record {
-  row = [];
-  is = sym (append-nil old);
-  each = λ x. ((λ h. absurd (none_in x h)), (λ h. absurd (let lt = h.1 in omega arith)));
-  rise = λ i j d lt low. absurd (omega arith);
-}
-
 pub row_next : (Has : ℕ → Type 0) (position bound least : ℕ) (old mid new : List Use) → AddsRow (λ x. Has x × (x < bound)) position old mid
     → Has least × (bound ≤ least) × ((x : ℕ) → Has x → bound ≤ x → least ≤ x)
     → new ≡ mid ++ use_of position least ∷ [] → (next : ℕ) → next ≡ least + 1 → AddsRow (λ x. Has x × (x < next)) position old new
@@ -132,15 +124,6 @@ row_next Has position bound least old mid new adds found e next step = record {
     pushed : (row : List ℕ) → map (use_of position) row ++ use_of position least ∷ [] ≡ map (use_of position) (row ++ least ∷ [])
     pushed [] = refl
     pushed (x ∷ row) = ap (λ l. use_of position x ∷ l) (pushed row)
-
-pub row_whole : (Has : ℕ → Type 0) (position bound : ℕ) (old new : List Use) → AddsRow (λ x. Has x × (x < bound)) position old new → ((x : ℕ) → Has x → x < bound)
-    → AddsRow Has position old new
-row_whole Has position bound old new adds low = record {
-  row = adds.row;
-  is = adds.is;
-  each = λ x. ((λ h. ((adds.each x).0 h).0), (λ h. (adds.each x).1 (h, low x h)));
-  rise = adds.rise;
-}
 
 -- a row of one
 pub row_one : (Has : ℕ → Type 0) (position x : ℕ) (old new : List Use) → Has x → ((y : ℕ) → Has y → x ≡ y) → new ≡ old ++ use_of position x ∷ [] → AddsRow Has position old new

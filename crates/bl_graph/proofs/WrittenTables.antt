@@ -8,10 +8,10 @@ use Rattle.std.proofs.lemmas.List.{take-append-drop, take_more, get_or-set_same,
 use Rattle.std.proofs.lemmas.List.Elements.{Contains-append_left, Contains-push, Contains-push_cases, Contains-get_or}
 use Rattle.bl_base.proofs.BoolLemmas.{never_both}
 use Rattle.bl_base.proofs.Lists.{replicate_or}
+use Rattle.bl_base.proofs.Members.{none_in}
 use Rattle.bl_graph.specs.Graphs.{use_of}
 use Rattle.bl_graph.specs.WrittenVariables.{AreUnprotected, noted}
 use Rattle.bl_graph.specs.declared.facts.Use.{Use}
-use Rattle.bl_graph.proofs.Members.{none_in}
 
 pub free_none : (writes : List Use) (chosen : ℕ → Bool) (count : ℕ) (written : List (Option ℕ)) → written ≡ replicate count None → AreUnprotected (take 0 writes) chosen written
 free_none writes chosen count written e = record {

@@ -1,13 +1,12 @@
 //! What commands read.
 ghost use Rattle.std.specs.Prelude.{◌≡◌, ◌↔◌, ◌<◌, ◌^◌, [], ◌∷◌, IfOk, IsTrue, OnOk, length, option_map};
-ghost use Rattle.bl_cmd.specs.Sites.{Among, Loads, Names, is_division, moved_by, sunk_by};
+ghost use Rattle.bl_cmd.specs.Sites.{Among, Loads, Names, moved_by, sunk_by};
 ghost use Rattle.bl_graph.specs.Graphs.{AreUses};
 ghost use Rattle.bl_graph.specs.UseLists.{AddsPlace, AddsRow, ArePlacesBelow, IsLeastFrom, LoadAt, OperandAt, lower_of};
 
 use crate::facts::Use;
 use bl_base::{List, NoMemory, Pos, Var};
 use bl_cmd::{Command, Operand};
-use bl_ops::Op;
 use std::alloc::Global;
 
 /// What a program's commands read. Loads rise in position, the other lists in position and then in variable.
@@ -97,7 +96,7 @@ fn push_sinks(sinks: &mut List<Use>, at: u32, command: Command) -> Result<(), No
 {
     match command {
         Command::Set { op, a, b, .. } => {
-            if is_division(op) {
+            if op.is_division() {
                 push_row(sinks, at, &[a, b])
             } else {
                 Ok(())
@@ -112,17 +111,6 @@ fn push_sinks(sinks: &mut List<Use>, at: u32, command: Command) -> Result<(), No
         Command::Out { .. } => Ok(()),
         Command::Ret => Ok(()),
         Command::Trap { .. } => Ok(()),
-    }
-}
-
-/// Whether the operator gives a quotient or a remainder.
-fn is_division(op: Op) -> bool
-    ensures { result ≡ is_division op }
-{
-    match op {
-        Op::I32DivS | Op::I32DivU | Op::I32RemS | Op::I32RemU => true,
-        Op::I64DivS | Op::I64DivU | Op::I64RemS | Op::I64RemU => true,
-        _ => false,
     }
 }
 

@@ -10,7 +10,7 @@ ghost use Rattle.bl_graph.specs.UseLists.{AddsRow, AreBelow};
 
 use crate::facts::Use;
 use bl_base::{List, NoMemory, Pos, Var};
-use bl_cmd::{Command, ProgramParts, WellFormed};
+use bl_cmd::{Command, FIRST_ENTRY, ProgramParts, WellFormed};
 use std::alloc::Global;
 
 /// The number of a program's variables. Linear in its functions; takes no memory.
@@ -52,7 +52,7 @@ pub(crate) fn writes_of(alloc: Global, program: &WellFormed) -> Result<List<Use>
     let parts = program.program().parts();
     let firsts = firsts_of(alloc, parts)?;
     let mut writes = List::new(alloc);
-    let mut entry = 7;
+    let mut entry = FIRST_ENTRY;
     for (number, function) in parts.functions.as_slice().iter().enumerate() {
         let running = Running {
             parts,

@@ -1,19 +1,16 @@
 -- The lines of an interface file, read one by one.
 use Rattle.std.proofs.Common.{◌≡◌, ℕ, zero, suc, ◌+◌, ◌-◌, ◌<◌, ◌≤◌, Bool, true, false, IsTrue, List, [], ◌∷◌, ◌++◌, length, map, take, drop, get_or, Option, Some, None, slice_get, refl, sym, ap, ◌∙◌, subst, arith, append_assoc}
-use Rattle.std.specs.List.{position_or_len}
 use Rattle.std.proofs.lemmas.Bool.{false≢true}
 use Rattle.std.specs.Str.{bytes_eq}
 use Rattle.std.proofs.lemmas.List.{append-nil, drop_all, drop_more, length-drop, map-append, take_all}
 use Rattle.std.proofs.lemmas.List.Folds.{list_any_at}
 use Rattle.std.proofs.lemmas.List.Quantifiers.{all_pairs_push}
 use Rattle.std.proofs.lemmas.Option.{none-some, same_Some}
-use Rattle.std.specs.Prelude.{◌==◌, not, option_map}
+use Rattle.std.specs.Prelude.{not, option_map}
 use Rattle.bl_base.specs.declared.names.Flow.{Flow}
 use Rattle.bl_iface.specs.Files.{IsFirstBadLine, Say, agreed, flow_before, flow_of, function_in, letters}
 use Rattle.bl_iface.specs.JoinedProgram.{is_named}
 use Rattle.bl_iface.specs.declared.iface.FnIface.{FnIface}
-use Rattle.bl_trace.specs.Lines.{lines_of}
-use Rattle.bl_trace.proofs.LineLemmas.{line_at}
 use Rattle.bl_iface.proofs.NameLemmas.{eq_itself}
 
 -- ---- where a list goes on
@@ -51,31 +48,28 @@ said_more front functions line one say is none = record {
       false≢true (sym none ∙ list_any_at (λ (x : FnIface). bytes_eq one.name x.name) functions k d lt (ap (bytes_eq one.name) same ∙ eq_itself one.name)));
 }
 
-module _ (bytes : List ℕ) (at place number : ℕ) (functions : List FnIface) (inside : at < length bytes)
-    (ends : place ≡ position_or_len (λ b. b == 10) (take (length bytes - at) (drop at bytes)))
-    (rest : lines_of (drop at bytes) ≡ drop number (lines_of bytes)) (say : Say (take number (lines_of bytes)) functions) where
-  abbrev here : List ℕ
-  here = take (at + place - at) (drop at bytes)
+-- of the lines of a file some are left, the first of which is read
+module _ (lines : List (List ℕ)) (number : ℕ) (functions : List FnIface) (left : List (List ℕ)) (line : List ℕ) (behind : List (List ℕ)) (first : left ≡ line ∷ behind)
+    (rest : left ≡ drop number lines) (say : Say (take number lines) functions) where
+  on : GoesOn lines number line behind
+  on = goes_on lines number line behind (sym rest ∙ first)
 
-  on : GoesOn (lines_of bytes) number here (lines_of (drop (at + place + 1) bytes))
-  on = goes_on (lines_of bytes) number here (lines_of (drop (at + place + 1) bytes)) (sym rest ∙ line_at bytes at place inside ends)
-
-  pub rest_more : lines_of (drop (at + place + 1) bytes) ≡ drop (number + 1) (lines_of bytes)
+  pub rest_more : behind ≡ drop (number + 1) lines
   rest_more = sym on.rest
 
-  pub bad_here : ((one : FnIface) → function_in here ≡ Some one → IsTrue (is_named functions one.name)) → IsFirstBadLine (lines_of bytes) (number + 1)
+  pub bad_here : ((one : FnIface) → function_in line ≡ Some one → IsTrue (is_named functions one.name)) → IsFirstBadLine lines (number + 1)
   bad_here bad = record {
     before = number;
     functions = functions;
-    line = here;
+    line = line;
     counted = omega arith;
     say = say;
     stands = on.stands;
     bad = bad;
   }
 
-  pub say_more : (one : FnIface) → function_in here ≡ Some one → is_named functions one.name ≡ false → Say (take (number + 1) (lines_of bytes)) (functions ++ one ∷ [])
-  say_more one is none = subst (λ l. Say l (functions ++ one ∷ [])) (sym on.front) (said_more (take number (lines_of bytes)) functions here one say is none)
+  pub say_more : (one : FnIface) → function_in line ≡ Some one → is_named functions one.name ≡ false → Say (take (number + 1) lines) (functions ++ one ∷ [])
+  say_more one is none = subst (λ l. Say l (functions ++ one ∷ [])) (sym on.front) (said_more (take number lines) functions line one say is none)
 
 -- at first
 pub say_nothing : (lines : List (List ℕ)) → Say (take 0 lines) []
@@ -125,9 +119,8 @@ not_false true e = refl
 not_false false e = absurd (false≢true e)
 
 -- no lines are left
-pub say_all : (bytes : List ℕ) (at number : ℕ) (functions : List FnIface) → length bytes ≤ at → lines_of (drop at bytes) ≡ drop number (lines_of bytes)
-    → Say (take number (lines_of bytes)) functions → Say (lines_of bytes) functions
-say_all bytes at number functions past rest say =
-    let none : drop number (lines_of bytes) ≡ [] = sym rest ∙ ap lines_of (drop_all at bytes past) in
-    let count : length (lines_of bytes) - number ≡ 0 = sym (length-drop number (lines_of bytes)) ∙ ap length none in
-    subst (λ l. Say l functions) (take_all number (lines_of bytes) (omega arith)) say
+pub say_all : (lines : List (List ℕ)) (number : ℕ) (functions : List FnIface) (left : List (List ℕ)) → left ≡ [] → left ≡ drop number lines
+    → Say (take number lines) functions → Say lines functions
+say_all lines number functions left none rest say =
+    let count : length lines - number ≡ 0 = sym (length-drop number lines) ∙ ap length (sym rest ∙ none) in
+    subst (λ l. Say l functions) (take_all number lines (omega arith)) say

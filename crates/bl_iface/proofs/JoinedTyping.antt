@@ -5,6 +5,7 @@ use Rattle.std.proofs.lemmas.Bool.{false≢true, ltb-true, ltb-false}
 use Rattle.bl_base.proofs.Lists.{all_get, within_get}
 use Rattle.bl_base.specs.declared.names.Flow.{Flow}
 use Rattle.bl_base.specs.declared.names.Flow.TheVariants.{Stable, Transient}
+use Rattle.bl_base.specs.declared.names.Role.TheVariants.{Client, Library}
 use Rattle.bl_cmd.specs.Layout.{first_of, statics, param, params_of, result, results_of, command_at}
 use Rattle.bl_cmd.specs.Programs.{IsProgram}
 use Rattle.bl_cmd.specs.Rules.{IsOwn, IsFunction, IsResult, IsWellFormed, Rule2}
@@ -14,6 +15,7 @@ use Rattle.bl_cmd.specs.declared.command.Mark.{Mark}
 use Rattle.bl_cmd.specs.declared.definitions.ProgramParts.{ProgramParts as Program}
 use Rattle.bl_cmd.specs.declared.definitions.FunctionDef.{FunctionDef}
 use Rattle.bl_cmd.proofs.Layouts.{next_first, number_is, result_own}
+use Rattle.bl_cmd.proofs.VariableBounds.{own_small, readable_small}
 use Rattle.bl_transient.specs.Transient.{Flows}
 use Rattle.bl_iface.specs.JoinedProgram.{CanJoin, Renaming, client_numbers, client_shift, exported, goes, joined, library_numbers, library_shift, moved_var, owner}
 use Rattle.bl_iface.specs.declared.shift.Shift.{Shift}
@@ -21,13 +23,11 @@ use Rattle.bl_iface.specs.InterfaceFunctions.{IsMatched, Matches}
 use Rattle.bl_iface.specs.Roles.{FlowsAs, KeepsRole}
 use Rattle.bl_iface.specs.declared.iface.FnIface.{FnIface}
 use Rattle.bl_iface.specs.declared.iface.Iface.{Iface}
-use Rattle.bl_iface.specs.declared.iface.Role.TheVariants.{Client, Library}
 use Rattle.bl_iface.proofs.JoinedRules.{client_embeds, library_embeds}
 use Rattle.bl_iface.proofs.JoinedReads.{gone, params_alike, read_cases, result_by, results_alike, stands_for}
 use Rattle.bl_iface.proofs.ShiftedPart.{Shifted, moved_above, moved_cases, moved_own}
 use Rattle.bl_iface.proofs.PartPlaces.{client_stands, command_of, library_stands}
 use Rattle.bl_iface.proofs.PartTyping.{AtSite, Typed, flows_from, from_part, known, trap_keeps}
-use Rattle.bl_iface.proofs.VariableBounds.{own_small, readable_small}
 use Rattle.bl_iface.proofs.JoinedWeights.{client_mark, library_mark}
 
 -- ---- the typing of the joined program

@@ -7,6 +7,7 @@ use Rattle.std.proofs.lemmas.List.Elements.{All-map, All-weaker}
 use Rattle.std.proofs.lemmas.Option.{slice_get_past}
 use Rattle.bl_base.specs.Sums.{sum_below}
 use Rattle.bl_base.proofs.Sums.{sum_none, sum_same}
+use Rattle.bl_base.proofs.PairwiseLemmas.{find_left, find_right, find_map}
 use Rattle.bl_cmd.specs.Layout.{command_at}
 use Rattle.bl_cmd.specs.Programs.{IsProgram}
 use Rattle.bl_cmd.specs.Rules.{IsWeight, IsWellFormed}
@@ -18,7 +19,6 @@ use Rattle.bl_cmd.specs.declared.definitions.ProgramParts.{ProgramParts as Progr
 use Rattle.bl_cmd.specs.declared.definitions.SiteWeight.{SiteWeight}
 use Rattle.bl_iface.specs.JoinedProgram.{Renaming, client_numbers, joined, library_numbers, library_shift, moved_position, pos_by, renamed}
 use Rattle.bl_iface.specs.declared.iface.Iface.{Iface}
-use Rattle.bl_iface.proofs.PairwiseLemmas.{find_left, find_right, find_map}
 use Rattle.bl_iface.proofs.ShiftedPart.{moved_above}
 use Rattle.bl_iface.proofs.PartPlaces.{client_at, client_long, library_at, trap_at, whole_length}
 

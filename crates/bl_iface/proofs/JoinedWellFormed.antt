@@ -10,6 +10,7 @@ use Rattle.bl_base.specs.Fits.{ArgumentFits}
 use Rattle.bl_base.specs.Quantity.{limit_of}
 use Rattle.bl_base.specs.declared.quantity.Quantity.TheVariants as quantity
 use Rattle.bl_base.specs.declared.names.Label.TheVariants.{Public}
+use Rattle.bl_base.proofs.PairwiseLemmas.{Unlike, apart_from_pairs, cross, pairs_append, pairs_from_apart, pairs_map, passes, some_within}
 use Rattle.bl_ops.specs.declared.op.Op.{Op}
 use Rattle.bl_cmd.specs.Layout.{first_of, entry_of, results_of}
 use Rattle.bl_cmd.specs.Programs.{ArePadded, IsCommand, IsProgram}
@@ -25,11 +26,10 @@ use Rattle.bl_cmd.specs.declared.definitions.GlobalDef.{GlobalDef}
 use Rattle.bl_cmd.specs.declared.definitions.MemoryDef.{MemoryDef}
 use Rattle.bl_cmd.specs.declared.definitions.SiteWeight.{SiteWeight}
 use Rattle.bl_cmd.specs.declared.definitions.ProgramParts.{ProgramParts as Program}
+use Rattle.bl_cmd.proofs.AppendLemmas.{get_left, get_right, sum_right}
 use Rattle.bl_iface.specs.JoinedProgram.{CanJoin, reserve_of, Renaming, client_numbers, is_result, joined, kept, library_numbers, library_shift, moved_demand, moved_position, pos_by, operand_by, renamed}
 use Rattle.bl_iface.specs.declared.iface.Iface.{Iface}
 use Rattle.bl_iface.specs.declared.limits.Sum.{Sum}
-use Rattle.bl_iface.proofs.AppendLemmas.{get_left, get_right, sum_right}
-use Rattle.bl_iface.proofs.PairwiseLemmas.{Unlike, apart_from_pairs, cross, pairs_append, pairs_from_apart, pairs_map, passes, some_within}
 use Rattle.bl_iface.proofs.ShiftedPart.{moved_above, results_same}
 use Rattle.bl_iface.proofs.JoinedWeights.{client_weight, library_weight, site_behind, weights_both}
 use Rattle.bl_iface.proofs.JoinedRules.{keeps}

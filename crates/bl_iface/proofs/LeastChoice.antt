@@ -1,6 +1,7 @@
 -- The least choice on one side of an interface.
 use Rattle.std.proofs.Common.{inl, inr, ℕ, Bool}
 use Rattle.bl_base.proofs.BoolLemmas.{never_both}
+use Rattle.bl_base.specs.declared.names.Role.{Role}
 use Rattle.bl_cmd.specs.declared.definitions.ProgramParts.{ProgramParts as Program}
 use Rattle.bl_cmd.specs.Rules.{IsWellFormed}
 use Rattle.bl_cut.specs.Least.{LeastUnder}
@@ -11,7 +12,6 @@ use Rattle.bl_iface.specs.InterfaceFunctions.{Matches}
 use Rattle.bl_iface.specs.Roles.{PassesAs}
 use Rattle.bl_iface.specs.RoleTests.{IsFirstGiven, IsGiven, LeastAs, asked}
 use Rattle.bl_iface.specs.declared.iface.Iface.{Iface}
-use Rattle.bl_iface.specs.declared.iface.Role.{Role}
 use Rattle.bl_iface.proofs.RoleTestLemmas.{as_from_under, asked_apart, hot_small, under_from_as}
 
 module _ (role : Role) (iface : Iface) (program : Program) where

@@ -1,5 +1,4 @@
 pub mod InterfaceTypes
-pub mod AppendLemmas
 pub mod RoleTestLemmas
 pub mod LeastChoice
 pub mod DemandLemmas
@@ -15,15 +14,12 @@ pub mod MovableLemmas
 pub mod NameLemmas
 pub mod NumbersLemmas
 pub mod OneAnswer
-pub mod PairwiseLemmas
 pub mod JoinedReads
 pub mod ShiftedPart
 pub mod SideLemmas
-pub mod VariableBounds
 pub mod PartPlaces
 pub mod PartTyping
 pub mod JoinedTyping
-pub mod WeightSums
 pub mod JoinedWeights
 pub mod JoinedWellFormed
 pub mod FileLines

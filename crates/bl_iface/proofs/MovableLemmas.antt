@@ -14,12 +14,12 @@ use Rattle.bl_cmd.specs.declared.command.Operand.{Operand}
 use Rattle.bl_cmd.specs.declared.command.Operand.TheVariants.{Var, Const}
 use Rattle.bl_cmd.specs.declared.definitions.ProgramParts.{ProgramParts as Program}
 use Rattle.bl_cmd.proofs.Layouts.{held_by, holds_within}
+use Rattle.bl_cmd.proofs.AppendLemmas.{get_drop}
+use Rattle.bl_cmd.proofs.VariableBounds.{readable_small, writable_small}
 use Rattle.bl_iface.specs.JoinedProgram.{CanJoin, client_shift, library_shift}
 use Rattle.bl_iface.specs.MovableNumbers.{IsMovable, IsNear, IsSmall, IsSmallOperand}
 use Rattle.bl_iface.specs.declared.iface.Iface.{Iface}
 use Rattle.bl_iface.specs.declared.shift.Shift.{Shift}
-use Rattle.bl_iface.proofs.AppendLemmas.{get_drop}
-use Rattle.bl_iface.proofs.VariableBounds.{readable_small, writable_small}
 use Rattle.bl_iface.proofs.JoinedWellFormed.{commands_fit, functions_fit, variables_fit}
 
 -- a part has room where it is moved to

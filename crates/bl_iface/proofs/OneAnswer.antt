@@ -7,13 +7,13 @@ use Rattle.std.proofs.lemmas.Option.{same_Some}
 use Rattle.bl_base.proofs.Lists.{all_get}
 use Rattle.bl_base.specs.declared.quantity.Quantity.{Quantity}
 use Rattle.bl_cmd.specs.declared.definitions.ProgramParts.{ProgramParts as Program}
+use Rattle.bl_cmd.proofs.AppendLemmas.{get_take}
 use Rattle.bl_iface.specs.Answers.{IsFirstWithout, JoinAnswers, StandsAgainst}
 use Rattle.bl_iface.specs.JoinedProgram.{HasSameTypes, IsNew, IsWithin, kept, sums}
 use Rattle.bl_iface.specs.declared.iface.Iface.{Iface}
 use Rattle.bl_iface.specs.declared.limits.Sum.{Sum}
 use Rattle.bl_iface.specs.declared.error.JoinError.{JoinError}
 use Rattle.bl_iface.specs.declared.error.JoinError.TheVariants.{Types, Export, Limit, Memory}
-use Rattle.bl_iface.proofs.AppendLemmas.{get_take}
 
 module _ {X : Type 0} (P : X → Type 0) (xs : List X) where
   pub none_of_all : (i : ℕ) → IsFirstWithout P xs i → All P xs → ⊥

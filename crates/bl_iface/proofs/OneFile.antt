@@ -9,13 +9,13 @@ use Rattle.std.proofs.lemmas.Option.{slice_get_read, slice_get_within}
 use Rattle.std.proofs.lemmas.Slice.Eq.{bytes_eq-Decides}
 use Rattle.bl_base.proofs.Lists.{get_mapped, mapped_get}
 use Rattle.bl_cmd.proofs.Totals.{rises_get}
+use Rattle.bl_cmd.proofs.AppendLemmas.{get_take}
 use Rattle.bl_iface.specs.Files.{IsFirstBadLine, IsIface, Say, function_in}
 use Rattle.bl_iface.specs.JoinedProgram.{is_named}
 use Rattle.bl_iface.specs.declared.error.IfaceError.{IfaceError}
 use Rattle.bl_iface.specs.declared.error.IfaceError.TheVariants.{Line, Memory}
 use Rattle.bl_iface.specs.declared.iface.FnIface.{FnIface}
 use Rattle.bl_iface.specs.declared.iface.Iface.{Iface}
-use Rattle.bl_iface.proofs.AppendLemmas.{get_take}
 
 -- what some lines say is one list
 some_same : {A : Type 0} (xs ys : List A) → map Some xs ≡ map Some ys → xs ≡ ys

@@ -1,10 +1,10 @@
 -- On one side of an interface there is one least choice and one verdict.
 use Rattle.std.proofs.Common.{◌≡◌, ℕ, ◌≤◌, Bool, ap, refl, arith}
 use Rattle.bl_base.specs.declared.number.Pos.{Pos}
+use Rattle.bl_base.specs.declared.names.Role.{Role}
 use Rattle.bl_cmd.specs.declared.definitions.ProgramParts.{ProgramParts as Program}
 use Rattle.bl_iface.specs.RoleTests.{IsFirstGiven, JudgesAs, asked}
 use Rattle.bl_iface.specs.declared.iface.Iface.{Iface}
-use Rattle.bl_iface.specs.declared.iface.Role.{Role}
 use Rattle.bl_iface.specs.declared.verdict.UnderVerdict.{UnderVerdict}
 use Rattle.bl_iface.specs.declared.verdict.UnderVerdict.TheVariants.{Yes, No}
 

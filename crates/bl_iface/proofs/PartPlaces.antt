@@ -11,9 +11,9 @@ use Rattle.bl_cmd.specs.declared.command.Command.{Command}
 use Rattle.bl_cmd.specs.declared.command.Command.TheVariants.{Trap}
 use Rattle.bl_cmd.specs.declared.definitions.FunctionDef.{FunctionDef}
 use Rattle.bl_cmd.specs.declared.definitions.ProgramParts.{ProgramParts as Program}
+use Rattle.bl_cmd.proofs.AppendLemmas.{get_left, get_right, get_take, get_drop, sum_left, sum_right}
 use Rattle.bl_iface.specs.JoinedProgram.{client_numbers, client_shift, joined, library_numbers, library_shift, renamed}
 use Rattle.bl_iface.specs.declared.iface.Iface.{Iface}
-use Rattle.bl_iface.proofs.AppendLemmas.{get_left, get_right, get_take, get_drop, sum_left, sum_right}
 use Rattle.bl_iface.proofs.ShiftedPart.{IsFrom, Shifted, Split}
 
 -- what a place in a list of images was

@@ -4,20 +4,21 @@ use Rattle.std.specs.Prelude.{IsSomeAnd, if◌then◌else◌, not}
 use Rattle.std.proofs.lemmas.Bool.{false≢true}
 use Rattle.std.proofs.lemmas.Option.{none-some, same_Some, slice_get_within}
 use Rattle.bl_base.specs.declared.trap.Trap.{Trap as TrapKind}
+use Rattle.bl_ops.specs.OperatorTable.{is_division}
 use Rattle.bl_cmd.specs.Layout.{first_of, param, params_of, result, results_of, running, command_at, Holds}
 use Rattle.bl_cmd.specs.Programs.{IsProgram}
 use Rattle.bl_cmd.specs.Rules.{IsOwn, IsReadable, IsWellFormed, Rule4, Rule6, operands_of}
-use Rattle.bl_cmd.specs.Sites.{Among, Loads, is_division, moved_by, sunk_by, written_by}
+use Rattle.bl_cmd.specs.Sites.{Among, Loads, moved_by, sunk_by, written_by}
 use Rattle.bl_cmd.specs.declared.command.Command.{Command}
 use Rattle.bl_cmd.specs.declared.command.Command.TheVariants.{Set, Load, Store, Test, Arg, Out, Trap}
 use Rattle.bl_cmd.specs.declared.command.Operand.{Operand}
 use Rattle.bl_cmd.specs.declared.definitions.ProgramParts.{ProgramParts as Program}
 use Rattle.bl_cmd.proofs.Layouts.{held_by, result_own, running_is}
+use Rattle.bl_cmd.proofs.VariableBounds.{own_small, writable_small}
 use Rattle.bl_transient.specs.Transient.{Flows}
 use Rattle.bl_iface.specs.JoinedProgram.{Renaming, moved_var, operand_by, renamed}
 use Rattle.bl_iface.specs.declared.shift.Shift.{Shift}
 use Rattle.bl_iface.proofs.EmbedLemmas.{Embeds, among_renamed}
-use Rattle.bl_iface.proofs.VariableBounds.{own_small, writable_small}
 use Rattle.bl_iface.proofs.ShiftedPart.{IsFrom, Shifted, moved_own, result_moved}
 
 -- a typing of the part agrees with one of the whole: what is transient where it is read was so, and what was so where it is written is

@@ -8,14 +8,16 @@ use Rattle.std.proofs.lemmas.Option.{slice_get_within}
 use Rattle.bl_base.proofs.BoolLemmas.{never_both}
 use Rattle.bl_base.specs.declared.names.Flow.{Flow}
 use Rattle.bl_base.specs.declared.names.Flow.TheVariants.{Stable, Transient}
+use Rattle.bl_base.specs.declared.names.Role.{Role}
+use Rattle.bl_base.specs.declared.names.Role.TheVariants.{Client, Library}
 use Rattle.bl_cmd.specs.Layout.{first_of, param, params_of, result, results_of}
 use Rattle.bl_cmd.specs.Rules.{IsOwn, Rule2, Rule3}
 use Rattle.bl_cmd.proofs.Layouts.{own_apart, result_own}
 use Rattle.bl_iface.proofs.JoinedReads.{exported_exists}
-use Rattle.bl_iface.proofs.VariableBounds.{own_small}
 use Rattle.bl_iface.proofs.PartTyping.{known}
 use Rattle.bl_iface.proofs.JoinedTyping.{param_own}
 use Rattle.bl_cmd.specs.declared.definitions.ProgramParts.{ProgramParts as Program}
+use Rattle.bl_cmd.proofs.VariableBounds.{own_small}
 use Rattle.bl_transient.specs.Transient.{Flows, Asked, FlowsUnder, TransUnder}
 use Rattle.bl_iface.specs.JoinedProgram.{exported}
 use Rattle.bl_iface.specs.InterfaceFunctions.{Matches}
@@ -26,8 +28,6 @@ use Rattle.bl_transient.proofs.LeastTypings.{exact_flows, trans_least}
 use Rattle.bl_iface.specs.RoleTests.{asked, is_called, is_flow, params_called, results_called}
 use Rattle.bl_iface.specs.declared.iface.FnIface.{FnIface}
 use Rattle.bl_iface.specs.declared.iface.Iface.{Iface}
-use Rattle.bl_iface.specs.declared.iface.Role.{Role}
-use Rattle.bl_iface.specs.declared.iface.Role.TheVariants.{Client, Library}
 
 -- ---- tests of variables
 

@@ -2,20 +2,20 @@
 use Rattle.std.proofs.Common.{◌≡◌, ℕ, ◌<◌, Bool, sym, ap, ◌∙◌, subst}
 use Rattle.std.proofs.Math.Path.{fun_ext}
 use Rattle.std.specs.List.{All, Contains}
+use Rattle.bl_base.specs.declared.names.Role.{Role}
 use Rattle.bl_cmd.specs.Rules.{IsWellFormed}
 use Rattle.bl_cmd.specs.declared.definitions.ProgramParts.{ProgramParts as Program}
 use Rattle.bl_graph.specs.Ranges.{variables}
 use Rattle.bl_graph.proofs.ChainLemmas.{all_from}
+use Rattle.bl_graph.proofs.AskedLists.{in_asked}
 use Rattle.bl_transient.specs.Transient.{Asked, PassesUnder}
 use Rattle.bl_transient.specs.Verdicts.{IsFirstBad, asked_of}
 use Rattle.bl_transient.specs.declared.asked.AskedOf.{AskedOf}
-use Rattle.bl_transient.proofs.AskedLists.{in_asked}
 use Rattle.bl_iface.specs.RoleLists.{AreAsked}
 use Rattle.bl_iface.specs.InterfaceFunctions.{Matches}
 use Rattle.bl_iface.specs.Roles.{PassesAs}
 use Rattle.bl_iface.specs.RoleTests.{asked}
 use Rattle.bl_iface.specs.declared.iface.Iface.{Iface}
-use Rattle.bl_iface.specs.declared.iface.Role.{Role}
 use Rattle.bl_iface.proofs.RoleTestLemmas.{as_from_under, asked_apart, bad_fails, firm_small, hot_small, under_from_as}
 
 -- what asks for the same is the same

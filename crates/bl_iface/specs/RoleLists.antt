@@ -2,12 +2,12 @@
 use Rattle.std.specs.Prelude.{◌≡◌, ◌≤◌, ℕ, suc, Bool, true, false, IsTrue, List, [], ◌∷◌, ◌++◌, nat_eq, Some}
 use Rattle.std.specs.List.{Contains, list_any}
 use Rattle.bl_base.specs.declared.names.Flow.{Flow}
+use Rattle.bl_base.specs.declared.names.Role.{Role}
 use Rattle.bl_cmd.specs.declared.definitions.ProgramParts.{ProgramParts as Program}
 use Rattle.bl_graph.specs.Graphs.{use_of}
 use Rattle.bl_graph.specs.declared.facts.Use.{Use}
 use Rattle.bl_iface.specs.RoleTests.{asked, is_flow}
 use Rattle.bl_iface.specs.declared.iface.Iface.{Iface}
-use Rattle.bl_iface.specs.declared.iface.Role.{Role}
 use Rattle.bl_transient.specs.declared.asked.AskedOf.{AskedOf}
 
 -- a list has exactly the variables for which a test is true

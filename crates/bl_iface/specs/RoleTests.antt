@@ -3,6 +3,8 @@ use Rattle.std.specs.Prelude.{◌≡◌, ◌≤◌, ◌-◌, ℕ, Bool, true, fa
 use Rattle.std.specs.List.{list_any}
 use Rattle.bl_base.specs.declared.names.Flow.{Flow}
 use Rattle.bl_base.specs.declared.names.Flow.TheVariants.{Stable, Transient}
+use Rattle.bl_base.specs.declared.names.Role.{Role}
+use Rattle.bl_base.specs.declared.names.Role.TheVariants.{Client, Library}
 use Rattle.bl_cmd.specs.Layout.{param, result}
 use Rattle.bl_cmd.specs.Sites.{SinkReads, weight_of}
 use Rattle.bl_cmd.specs.declared.definitions.ProgramParts.{ProgramParts as Program}
@@ -14,8 +16,6 @@ use Rattle.bl_iface.specs.Roles.{PassesAs}
 use Rattle.bl_iface.specs.declared.choice.UnderError.{UnderError}
 use Rattle.bl_iface.specs.declared.choice.UnderError.TheVariants.{Sink, Memory}
 use Rattle.bl_iface.specs.declared.iface.Iface.{Iface}
-use Rattle.bl_iface.specs.declared.iface.Role.{Role}
-use Rattle.bl_iface.specs.declared.iface.Role.TheVariants.{Client, Library}
 use Rattle.bl_iface.specs.declared.verdict.UnderVerdict.{UnderVerdict}
 use Rattle.bl_iface.specs.declared.verdict.UnderVerdict.TheVariants.{Yes, No}
 

@@ -3,14 +3,14 @@ use Rattle.std.specs.Prelude.{◌≡◌, ℕ, Bool, IsTrue, not, List, Some, sli
 use Rattle.std.specs.List.{All}
 use Rattle.bl_base.specs.declared.names.Flow.{Flow}
 use Rattle.bl_base.specs.declared.names.Flow.TheVariants.{Stable, Transient}
+use Rattle.bl_base.specs.declared.names.Role.{Role}
+use Rattle.bl_base.specs.declared.names.Role.TheVariants.{Client, Library}
 use Rattle.bl_cmd.specs.Layout.{param, result}
 use Rattle.bl_cmd.specs.declared.definitions.ProgramParts.{ProgramParts as Program}
 use Rattle.bl_transient.specs.Transient.{Flows}
 use Rattle.bl_iface.specs.JoinedProgram.{exported}
 use Rattle.bl_iface.specs.declared.iface.FnIface.{FnIface}
 use Rattle.bl_iface.specs.declared.iface.Iface.{Iface}
-use Rattle.bl_iface.specs.declared.iface.Role.{Role}
-use Rattle.bl_iface.specs.declared.iface.Role.TheVariants.{Client, Library}
 
 -- a variable for each index that is called transient is so, and each that is called stable is so
 abbrev pub AreTransient : (ℕ → Bool) → List Flow → (ℕ → ℕ) → Type 0

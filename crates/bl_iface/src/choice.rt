@@ -13,9 +13,9 @@ ghost use Rattle.bl_iface.specs.RoleTests.{IsFirstGiven, IsGiven, IsUnderError, 
 ghost use Rattle.bl_iface.specs.declared.choice.UnderError.TheVariants as under;
 ghost use Rattle.bl_transient.specs.Verdicts.{asked_of};
 
-use crate::iface::{Iface, Role};
+use crate::iface::Iface;
 use crate::lists::asked_of;
-use bl_base::{NoMemory, Pos, SiteSet};
+use bl_base::{NoMemory, Pos, Role, SiteSet};
 use bl_cmd::WellFormed;
 use bl_cut::least_under_of;
 use bl_graph::{Graph, SinkUse, graph};

@@ -18,12 +18,3 @@ pub struct FnIface {
     /// The flow of each result.
     pub results: List<Flow>,
 }
-
-/// On which side of an interface a program stands.
-#[derive(Clone, Copy, Debug, PartialEq, Eq)]
-pub enum Role {
-    /// It calls the interface's functions, and has a stub for each.
-    Client,
-    /// It has them.
-    Library,
-}

@@ -21,8 +21,8 @@ use crate::shift::Shift;
 use crate::tables::goals_of;
 use bl_base::{List, NoMemory};
 use bl_cmd::{
-    Command, Demand, ExportDef, FunctionDef, MemoryDef, Program, ProgramParts, SiteWeight,
-    WellFormed, firsts_of,
+    Command, Demand, ExportDef, FIRST_ENTRY, FunctionDef, MemoryDef, Program, ProgramParts,
+    SiteWeight, WellFormed, firsts_of,
 };
 use std::alloc::Global;
 
@@ -207,7 +207,7 @@ fn commands_of(
     let mut commands = List::new(alloc);
     push_all(
         &mut commands,
-        &client.program().parts().commands.as_slice()[..7],
+        &client.program().parts().commands.as_slice()[..FIRST_ENTRY as usize],
     )?;
     push_client(
         &mut commands,
@@ -256,7 +256,7 @@ fn push_client(
         other_firsts: library_firsts,
         goals,
     };
-    numbers.push(to, &part.commands.as_slice()[7..])
+    numbers.push(to, &part.commands.as_slice()[FIRST_ENTRY as usize..])
 }
 
 /// Appends the library's commands, of which none goes to the client.
@@ -284,7 +284,7 @@ fn push_library(
         other_firsts: client_firsts,
         goals: &[],
     };
-    numbers.push(to, &part.commands.as_slice()[7..])
+    numbers.push(to, &part.commands.as_slice()[FIRST_ENTRY as usize..])
 }
 
 /// The demands of both: those of results, and then those of globals.
@@ -357,7 +357,7 @@ fn library_shift(client: &ProgramParts) -> Shift
         vars: vars_of(client) as u32,
         memories: client.memories.len() as u32,
         functions: client.functions.len() as u32,
-        commands: (client.commands.len() - 7) as u32,
+        commands: (client.commands.len() - FIRST_ENTRY as usize) as u32,
     }
 }
 

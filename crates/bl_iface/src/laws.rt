@@ -1,5 +1,7 @@
 //! Laws of interfaces and of joined programs. Each function is its contract alone.
 ghost use Rattle.std.specs.Prelude.{◌≡◌, ◌↔◌, ℕ, Bool as Truth, Err, IsTrue, List as Listed, Result as Answer};
+ghost use Rattle.bl_base.specs.declared.names.Role.{Role};
+ghost use Rattle.bl_base.specs.declared.names.Role.TheVariants.{Client, Library};
 ghost use Rattle.bl_cmd.specs.Programs.{IsProgram};
 ghost use Rattle.bl_cmd.specs.Rules.{IsWellFormed};
 ghost use Rattle.bl_cmd.specs.Sites.{is_protected};
@@ -20,8 +22,6 @@ ghost use Rattle.bl_iface.specs.declared.error.IfaceError.TheVariants.{Memory as
 ghost use Rattle.bl_iface.specs.declared.error.JoinError.{JoinError};
 ghost use Rattle.bl_iface.specs.declared.error.JoinError.TheVariants.{Memory};
 ghost use Rattle.bl_iface.specs.declared.iface.Iface.{Iface};
-ghost use Rattle.bl_iface.specs.declared.iface.Role.{Role};
-ghost use Rattle.bl_iface.specs.declared.iface.Role.TheVariants.{Client, Library};
 ghost use Rattle.bl_iface.specs.declared.verdict.UnderVerdict.{UnderVerdict};
 
 /// Two programs that can be joined are joined to a program that keeps all rules.

@@ -20,7 +20,7 @@ mod verdict;
 
 pub use choice::{UnderChoice, UnderError, least_under};
 pub use error::{IfaceError, JoinError, TargetsError};
-pub use iface::{FnIface, Iface, Role};
+pub use iface::{FnIface, Iface};
 pub use joining::join;
 pub use matching::{targets, unmatched};
 pub use read::read_iface;

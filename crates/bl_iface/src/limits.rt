@@ -8,7 +8,7 @@ ghost use Rattle.bl_iface.specs.Answers.{IsFirstOver};
 ghost use Rattle.bl_iface.specs.JoinedProgram.{IsWithin, sums};
 
 use bl_base::{Pos, Quantity};
-use bl_cmd::{MemoryDef, ProgramParts, WellFormed, mark_at, site_weight};
+use bl_cmd::{FIRST_ENTRY, MemoryDef, ProgramParts, WellFormed, mark_at, site_weight};
 
 /// A number of two programs together, and the most that it may be.
 #[derive(Clone, Copy, Debug)]
@@ -42,7 +42,7 @@ pub(crate) fn sums(client: &WellFormed, library: &WellFormed) -> [Sum; 5]
         sum_of(
             Quantity::Commands,
             ours.commands.len() as u64,
-            theirs.commands.len() as u64 - 7,
+            theirs.commands.len() as u64 - u64::from(FIRST_ENTRY),
         ),
         sum_of(Quantity::Weight, weight_of(client), weight_of(library)),
     ]

@@ -7,9 +7,9 @@ ghost use Rattle.bl_iface.specs.RoleLists.{AreAsked, Lists, called_from, kept_if
 ghost use Rattle.bl_iface.specs.InterfaceFunctions.{AreTargets, Matches};
 ghost use Rattle.bl_iface.specs.RoleTests.{is_flow, params_called, results_called};
 
-use crate::iface::{Iface, Role};
+use crate::iface::Iface;
 use crate::matching::matched;
-use bl_base::{Flow, List, NoMemory};
+use bl_base::{Flow, List, NoMemory, Role};
 use bl_cmd::{ProgramParts, WellFormed, firsts_of};
 use bl_transient::AskedOf;
 use std::alloc::Global;

@@ -1,12 +1,12 @@
 //! Interface files.
 ghost use Rattle.std.specs.Prelude.{◌≡◌, IfOk, MatchOption, None, Some};
+ghost use Rattle.bl_text.specs.Lines.{lines_of};
 ghost use Rattle.bl_iface.specs.Files.{IsIface, cut, flow_of, flows_of, function_of, letters, parts_of};
-ghost use Rattle.bl_trace.specs.Lines.{lines_of};
 
 use crate::error::IfaceError;
 use crate::iface::{FnIface, Iface};
 use bl_base::{Flow, List, NoMemory, Text};
-use bl_trace::place_of;
+use bl_text::{Lines, place_of};
 use std::alloc::Global;
 use std::collections::BTreeSet;
 
@@ -32,12 +32,10 @@ pub fn read_iface(alloc: Global, bytes: &[u8]) -> Result<Iface, IfaceError>
 {
     let mut functions = List::new(alloc);
     let mut names = BTreeSet::new(alloc);
-    let mut at = 0;
     let mut number = 0u64;
-    while at < bytes.len() {
+    for line in Lines::of(bytes) {
         number += 1;
-        let end = at + place_of(&bytes[at..], b'\n');
-        let Some(parts) = parts_of(&bytes[at..end]) else {
+        let Some(parts) = parts_of(line) else {
             return Err(IfaceError::Line(number));
         };
         let Some(function) = read_function(alloc, &parts)? else {
@@ -47,7 +45,6 @@ pub fn read_iface(alloc: Global, bytes: &[u8]) -> Result<Iface, IfaceError>
             return Err(IfaceError::Line(number));
         }
         functions.push(function)?;
-        at = end + 1;
     }
     Ok(Iface { functions })
 }

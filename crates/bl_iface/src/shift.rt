@@ -4,7 +4,7 @@ ghost use Rattle.bl_iface.specs.JoinedProgram.{moved_position, moved_var};
 ghost use Rattle.bl_iface.specs.MovableNumbers.{IsNear, IsSmall};
 
 use bl_base::Pos;
-use bl_cmd::ProgramParts;
+use bl_cmd::{FIRST_ENTRY, ProgramParts};
 
 /// What is added to the numbers of a part: to those of its globals, sizes, functions' variables, memories, functions and commands.
 #[derive(Clone, Copy, Debug)]
@@ -19,7 +19,7 @@ pub(crate) struct Shift {
     pub(crate) memories: u32,
     /// To those of functions.
     pub(crate) functions: u32,
-    /// To positions from 7 on.
+    /// To positions of functions' commands.
     pub(crate) commands: u32,
 }
 
@@ -44,7 +44,7 @@ pub(crate) fn moved_position(shift: Shift, at: Pos) -> Pos
     requires { IsNear shift at.0 }
     ensures { result.0 ≡ moved_position shift at.0 }
 {
-    if at.0 < 7 {
+    if at.0 < FIRST_ENTRY {
         at
     } else {
         Pos(at.0 + shift.commands)

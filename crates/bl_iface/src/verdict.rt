@@ -4,9 +4,9 @@ ghost use Rattle.bl_cmd.specs.Sites.{is_protected};
 ghost use Rattle.bl_iface.specs.InterfaceFunctions.{Matches};
 ghost use Rattle.bl_iface.specs.RoleTests.{JudgesAs};
 
-use crate::iface::{Iface, Role};
+use crate::iface::Iface;
 use crate::lists::asked_of;
-use bl_base::{NoMemory, Pos};
+use bl_base::{NoMemory, Pos, Role};
 use bl_cmd::WellFormed;
 use bl_graph::graph;
 use bl_transient::{first_bad_of, own_protects};

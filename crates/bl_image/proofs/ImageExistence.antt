@@ -49,9 +49,9 @@ use Rattle.bl_cmd.specs.declared.definitions.ParamDef.{ParamDef}
 use Rattle.bl_cmd.specs.declared.definitions.ProgramParts.{ProgramParts as Program}
 use Rattle.bl_cmd.specs.declared.definitions.SiteWeight.{SiteWeight}
 use Rattle.bl_cmd.proofs.Layouts.{first_below, held_by, holds_within, number_is, own_exists, result_own}
+use Rattle.bl_cmd.specs.Widths.{HasByteWidths, HasConstants, HasWidth, HasWidths}
 use Rattle.bl_image.specs.Grammar.{each, each_after, gap, u32, u64, vec}
 use Rattle.bl_image.specs.Image.{Image, additions, command, command_code, definitions, demand, export, exports, fields, function, global, image, label, magic, mark, memory, operand, param, row, rows, value_type, weight, weights, label_code, type_code, version}
-use Rattle.bl_image.specs.Widths.{HasByteWidths, HasConstants, HasWidth, HasWidths}
 use Rattle.bl_image.specs.WriterAnswers.{DefinitionsFit, FunctionFits, Rises}
 use Rattle.bl_image.proofs.Prefixes.{one_image}
 use Rattle.bl_image.proofs.SpellableParts.{additions_fit, definitions_fit, found_within, member, memory_fits, rows_few, site_within}

@@ -12,3 +12,4 @@ pub mod Operands
 pub mod Prefixes
 pub mod UniqueSpellings
 pub mod WholeImage
+pub mod ImageWidths

@@ -1,5 +1,4 @@
 pub mod Grammar
 pub mod Image
 pub mod ReaderAnswers
-pub mod Widths
 pub mod WriterAnswers

@@ -8,7 +8,7 @@ use crate::decode::{MAGIC, version_of};
 use crate::rising::{length_of_numbered, write_numbered};
 use crate::write::{Write, length_of_count, length_of_each, write_byte, write_each, write_u64};
 use bl_base::{List, NoMemory};
-use bl_cmd::{Demand, ExportDef, ProgramParts, SiteWeight, WellFormed};
+use bl_cmd::{Demand, ExportDef, FIRST_ENTRY, ProgramParts, SiteWeight, WellFormed};
 use std::alloc::Global;
 
 /// How many bytes the magic and the version have.
@@ -71,7 +71,10 @@ pub fn encode(alloc: Global, program: &WellFormed) -> Result<Vec<u8>, NoMemory>
     write_header(version, &mut bytes)?;
     write_definitions(parts, &mut bytes)?;
     write_additions(&parts.demands, &parts.weights, &mut bytes)?;
-    write_each(&parts.commands.as_slice()[7..], &mut bytes)?;
+    write_each(
+        &parts.commands.as_slice()[FIRST_ENTRY as usize..],
+        &mut bytes,
+    )?;
     Ok(bytes)
 }
 
@@ -117,7 +120,7 @@ pub fn image_length(program: &WellFormed) -> u64
     let parts = program.program().parts();
     let definitions = length_of_definitions(parts);
     let additions = length_of_additions(&parts.demands, &parts.weights);
-    let commands = length_of_each(&parts.commands.as_slice()[7..]);
+    let commands = length_of_each(&parts.commands.as_slice()[FIRST_ENTRY as usize..]);
     definitions
         .saturating_add(additions)
         .saturating_add(commands)

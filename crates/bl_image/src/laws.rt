@@ -4,8 +4,8 @@ ghost use Rattle.bl_base.specs.Fits.{AreBytes};
 ghost use Rattle.bl_cmd.specs.declared.definitions.ProgramParts.{ProgramParts};
 ghost use Rattle.bl_cmd.specs.Programs.{IsProgram};
 ghost use Rattle.bl_cmd.specs.Rules.{IsWellFormed};
+ghost use Rattle.bl_cmd.specs.Widths.{HasByteWidths, HasWidths};
 ghost use Rattle.bl_image.specs.Image.{Image};
-ghost use Rattle.bl_image.specs.Widths.{HasByteWidths, HasWidths};
 
 /// Bytes are the image of at most one program.
 pub fn one_program()

@@ -2,16 +2,12 @@
 use Rattle.std.proofs.Common.{◌≡◌, ℕ, ◌+◌, ◌-◌, ◌<◌, ◌≤◌, ℤ, pos, ◌+ℤ◌, ◌*ℤ◌, List, [], length, get_or, arith, slice_range, inl, inr}
 use Rattle.bl_leb.specs.Numbers.{IsSigned, IsSignedByte}
 use Rattle.bl_leb.specs.Spellings.{IsSpelledAt}
-use Rattle.bl_leb.proofs.Places.{spelled_one, spelled_more, begins, one_place}
+use Rattle.bl_leb.proofs.Places.{spelled_more, begins, one_place}
 use Rattle.bl_leb.proofs.Signed.{by_first, with_first, byte_small, one_end, one_value}
 
 -- no empty spelling
 pub not_nothing : (width : ℕ) (w : ℤ) → IsSigned width [] w → ⊥
 not_nothing width w h = h
-
--- a last byte is a number
-pub signed_one : (width : ℕ) (bytes : List ℕ) (i n : ℕ) (v : ℤ) → i < length bytes → n ≡ get_or bytes i n → IsSignedByte width n v → IsSpelledAt (IsSigned width) bytes i (i + 1) v
-signed_one width bytes i n v inside is h = spelled_one (IsSigned width) bytes i n v inside is h
 
 -- a byte from 128 on, and the number behind it
 pub signed_more : (width : ℕ) (bytes : List ℕ) (i j n : ℕ) (m v : ℤ) → i < length bytes → n ≡ get_or bytes i n → 128 ≤ n → n < 256 → 7 < width → IsSpelledAt (IsSigned (width - 7)) bytes (i + 1) j m → v ≡ pos 128 *ℤ m +ℤ pos (n - 128) → IsSpelledAt (IsSigned width) bytes i j v

@@ -10,7 +10,6 @@ pub mod NumberedLists
 pub mod PartSteps
 pub mod PartDefinitions
 pub mod SegmentLemmas
-pub mod SpelledGlobals
 pub mod LinkedTrees
 pub mod WorkedLinks
 pub mod AddedNames
@@ -21,3 +20,4 @@ pub mod SpelledParts
 pub mod QualifiedNames
 pub mod ReadElements
 pub mod TreeParts
+pub mod ModuleWidths

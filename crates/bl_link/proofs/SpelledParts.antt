@@ -25,11 +25,11 @@ use Rattle.bl_wasm.specs.declared.module.Code.{Code}
 use Rattle.bl_wasm.specs.declared.types.FuncType.{FuncType}
 use Rattle.bl_wasm.specs.declared.types.Limits.{Limits}
 use Rattle.bl_wasm.proofs.LimitLemmas.{above_none}
+use Rattle.bl_wasm.proofs.SpelledGlobals.{global_spelled, section_length, stands}
 use Rattle.bl_link.specs.Linkable.{AreParts, IsPart, NoSolidus}
 use Rattle.bl_link.specs.Links.{part_of}
 use Rattle.bl_link.specs.Stores.{AreApart}
 use Rattle.bl_link.specs.declared.part.Part.{Part}
-use Rattle.bl_link.proofs.SpelledGlobals.{global_spelled, section_length, stands}
 
 type_spelled : (type : FuncType) (bytes : List ℕ) → function_type type bytes → 1 ≤ length bytes
 type_spelled type bytes h = omega (arith, ap length h.whole, length-append h.front h.rest, ap length h.first)

@@ -13,6 +13,7 @@ use Rattle.bl_wasm.specs.declared.linked.Signature.{Signature}
 use Rattle.bl_wasm.specs.declared.linked.Function.{Function}
 use Rattle.bl_wasm.specs.declared.linked.Tree.{Tree}
 use Rattle.bl_wasm.specs.Linked.{type_of}
+use Rattle.bl_wasm.proofs.LocalCounts.{locals_counted}
 use Rattle.bl_reduce.specs.Calls.{depth, operands, caller, call_at, call, entered as entered_frame, enter}
 use Rattle.bl_reduce.specs.Configurations.{Store, Frame, State, entering, go, known, trap}
 use Rattle.bl_reduce.specs.TypedConfigurations.{IsEntering}
@@ -25,7 +26,6 @@ use Rattle.bl_machine.specs.Transitions.{call_of, entered_at}
 use Rattle.bl_machine.specs.declared.body.Body.{Body}
 use Rattle.bl_machine.specs.declared.machine.Activation.{Activation}
 use Rattle.bl_machine.specs.declared.machine.Machine.{Machine}
-use Rattle.bl_machine.proofs.LocalCounts.{locals_counted}
 use Rattle.bl_machine.proofs.StackLemmas.{on_others, below_top, topmost_are}
 use Rattle.bl_machine.proofs.StraightLineSimulation.{Then, with_upper}
 

@@ -1,6 +1,5 @@
 pub mod BlockSimulation
 pub mod CallSimulation
-pub mod LocalCounts
 pub mod DriveLemmas
 pub mod JumpSearch
 pub mod ConstructEnds

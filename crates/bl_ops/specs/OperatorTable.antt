@@ -1,5 +1,5 @@
--- The operators' codes, operands and types (WebAssembly 1.0, sections 2.4.1 and 5.4.5; the extensions by sign, version 2.0).
-use Rattle.std.specs.Prelude.{ℕ, Bool, true, ◌&&◌, nat_lt, ◌==◌, List, [], ◌∷◌, filter_map, find, Option, Some, None, option_map, unwrap_or}
+-- The operators' codes, operands and types, and which of them divide (WebAssembly 1.0, sections 2.4.1 and 5.4.5; the extensions by sign, version 2.0).
+use Rattle.std.specs.Prelude.{ℕ, Bool, true, false, ◌&&◌, nat_lt, ◌==◌, List, [], ◌∷◌, filter_map, find, Option, Some, None, option_map, unwrap_or}
 use Rattle.bl_base.specs.declared.names.ValueType.{ValueType}
 use Rattle.bl_base.specs.declared.names.ValueType.TheVariants.{I32, I64}
 use Rattle.bl_ops.specs.declared.op.Op.{Op}
@@ -90,6 +90,18 @@ row_of I64Extend32S = unary 0xC4 I64 I64
 row_of Move = None
 row_of Select = None
 row_of Outside = None
+
+-- quotients and remainders
+abbrev pub is_division : Op → Bool
+is_division I32DivS = true
+is_division I32DivU = true
+is_division I32RemS = true
+is_division I32RemU = true
+is_division I64DivS = true
+is_division I64DivU = true
+is_division I64RemS = true
+is_division I64RemU = true
+is_division op = false
 
 -- the code of an integer operator
 abbrev pub operator_code : Op → Option ℕ

@@ -1,7 +1,7 @@
 //! The table of the operators, and the calls that it makes.
 ghost use Rattle.std.specs.Prelude.{◌≡◌, IfSome};
 ghost use Rattle.bl_ops.specs.Numerics.{meaning, outside, select, traps};
-ghost use Rattle.bl_ops.specs.OperatorTable.{operator_code, image_code_of, row_of, row_operands, rows};
+ghost use Rattle.bl_ops.specs.OperatorTable.{is_division, operator_code, image_code_of, row_of, row_operands, rows};
 ghost use Rattle.bl_ops.specs.declared.op.Op.{Op};
 
 use crate::group::{
@@ -143,6 +143,14 @@ macro_rules! by_row {
             Op::Move | Op::Select | Op::Outside => None,
         }
     };
+    (@is_division ($one:expr)
+        $($op:ident $code:literal $operands:tt $from:ident $to:ident $group:ident $kind:ident,)*
+    ) => {
+        match $one {
+            $(Op::$op => by_row!(@divides $group),)*
+            Op::Move | Op::Select | Op::Outside => false,
+        }
+    };
     (@record $code:literal $operands:tt $from:ident $to:ident) => {
         OpRow {
             code: $code,
@@ -159,6 +167,17 @@ macro_rules! by_row {
     (@trap I32 Division $kind:ident, $a:expr, $b:expr) => { Division::$kind.trap_32($a, $b) };
     (@trap I64 Division $kind:ident, $a:expr, $b:expr) => { Division::$kind.trap_64($a, $b) };
     (@trap $from:ident $group:ident $kind:ident, $a:expr, $b:expr) => { None };
+    (@divides Division) => { true };
+    (@divides $group:ident) => { false };
+}
+
+impl Op {
+    /// Whether it gives a quotient or a remainder.
+    pub fn is_division(self) -> bool
+        ensures { result ≡ is_division self }
+    {
+        by_row!(is_division(self))
+    }
 }
 
 /// The rows of the 66 integer operators.

@@ -1,13 +1,8 @@
 -- Reads one after another, where the bytes that a file has left are known.
-use Rattle.std.proofs.Common.{◌≤◌, ℕ, ◌-◌, arith, take, List, [], ◌++◌, Some, None, Option, length, refl, ap, sym, ◌∙◌}
+use Rattle.std.proofs.Common.{◌≤◌, ℕ, ◌-◌, arith, take, List, ◌++◌, Some, None, Option, length, ap, sym, ◌∙◌}
 use Rattle.std.proofs.lemmas.List.{append_assoc, length-append, length-take-le}
 use Rattle.std.specs.Io.KnownBytes.{Consumes}
 use Rattle.bl_outside.specs.Reading.{Passes}
-
--- nothing is read of what stays
-pub none-read : (known : Option (List ℕ)) → Consumes known known []
-none-read None = tt
-none-read (Some xs) = refl
 
 -- what two reads gave
 pub read-twice : (old mid new : Option (List ℕ)) (first second : List ℕ) → Consumes old mid first → Consumes mid new second → Consumes old new (first ++ second)
@@ -15,10 +10,6 @@ read-twice None mid new first second a b = tt
 read-twice (Some xs) None new first second a b = absurd a
 read-twice (Some xs) (Some ys) None first second a b = absurd b
 read-twice (Some xs) (Some ys) (Some zs) first second a b = a ∙ ap (λ ys. first ++ ys) b ∙ sym (append_assoc first second zs)
-
--- nothing is passed at first
-pub none-passed : (known : Option (List ℕ)) → Passes known known 0
-none-passed known = record { bytes = []; next = none-read known; many = refl }
 
 -- what was passed, and a read more
 pub passed-more : (old mid new : Option (List ℕ)) (count left n : ℕ) (piece : List ℕ) → left ≤ count → n ≤ left → n ≤ length piece → Passes old mid (count - left)

@@ -11,3 +11,4 @@ mod WorkedItems
 pub mod WorkedLinked
 mod WorkedRuns
 pub mod WorkedTrees
+pub mod RenamedParts

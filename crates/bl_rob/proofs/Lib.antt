@@ -1,5 +1,4 @@
 pub mod InitialMachine
-pub mod Entries
 pub mod BufferInvariant
 pub mod Masks
 pub mod ObservationLemmas
@@ -11,3 +10,4 @@ pub mod StepLemmas
 pub mod PlainTracks
 pub mod PolicyLemmas
 pub mod WorkedExamples
+pub mod OtherGlobals

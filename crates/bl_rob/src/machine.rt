@@ -1,7 +1,6 @@
 //! The machine between two steps, and what executing an entry of it comes to.
 ghost use Rattle.std.specs.Prelude.{◌≡◌, ◌≤◌, ◌<◌, ◌^◌, IfOk, Some, length};
 ghost use Rattle.bl_cmd.specs.Outcomes.{IsStart};
-ghost use Rattle.bl_cmd.specs.Sites.{is_division};
 ghost use Rattle.bl_cmd.specs.Steps.{effective};
 ghost use Rattle.bl_seq.specs.Layouts.{IsLayout};
 ghost use Rattle.bl_rob.specs.CallResults.{act_at, shown};
@@ -42,23 +41,6 @@ pub fn effective(layout: &Layout, memory: u32, offset: u32, address: u64) -> usi
 {
     let address = address % 0x1_0000_0000;
     layout.base(memory) + (address as usize + offset as usize)
-}
-
-/// Whether an operator divides.
-fn is_division(op: Op) -> bool
-    ensures { result ≡ is_division op }
-{
-    matches!(
-        op,
-        Op::I32DivS
-            | Op::I32DivU
-            | Op::I32RemS
-            | Op::I32RemU
-            | Op::I64DivS
-            | Op::I64DivU
-            | Op::I64RemS
-            | Op::I64RemU
-    )
 }
 
 /// A value that is held where it is protected.
@@ -272,7 +254,7 @@ fn assign(before: &[Entry], protect: bool, op: Op, to: Register, a: u64, b: u64,
     ensures { result ≡ assigns (guards before.now) protect op to (Some a) (Some b) (Some c) }
 {
     let work = valued(protect, to, eval(op, a, b, c));
-    if !is_division(op) {
+    if !op.is_division() {
         return Act::Becomes(work, Observation::Nothing);
     }
     let observation = Observation::Divide {

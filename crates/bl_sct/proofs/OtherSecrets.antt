@@ -27,10 +27,10 @@ use Rattle.bl_rob.specs.Observations.{Rules, MeetWhereEnded, after_by}
 use Rattle.bl_rob.specs.declared.directive.Directive.{Directive}
 use Rattle.bl_rob.proofs.BufferInvariant.{Holds, Kept, runs, opening_kept, step_ok}
 use Rattle.bl_rob.proofs.FetchedRuns.{config_of}
+use Rattle.bl_rob.proofs.OtherGlobals.{with_globals, first_same, step_same, after_same, observed_same}
 use Rattle.bl_sct.specs.OtherSecrets.{IsOtherGlobal, AreAlikeBesideBy, HidesGlobals, HidesGlobalsBy}
 use Rattle.bl_sct.proofs.InitialAgreement.{registers as first_alike, bytes as bytes_alike, opposite, reached as comes}
 use Rattle.bl_sct.proofs.Entries.{none}
-use Rattle.bl_sct.proofs.OtherGlobals.{with_globals, first_same, step_same, after_same, observed_same}
 use Rattle.bl_sct.proofs.Relation.{Rel, Twin, all_twins, step_twins}
 use Rattle.bl_sct.proofs.LockstepLemmas.{Twins, twins}
 use Rattle.bl_sct.proofs.EqualObservations.{demands_by}

@@ -5,9 +5,10 @@ use Rattle.bl_base.specs.Quantity.{most_calls}
 use Rattle.bl_base.specs.declared.names.Label.{Label}
 use Rattle.bl_base.specs.declared.names.Label.TheVariants.{Public, Secret}
 use Rattle.bl_base.proofs.BoolLemmas.{each_true}
+use Rattle.bl_ops.specs.OperatorTable.{is_division}
 use Rattle.bl_ops.specs.declared.op.Op.TheVariants.{Move}
 use Rattle.bl_cmd.specs.Layout.{param, result, running, command_at}
-use Rattle.bl_cmd.specs.Sites.{Names, Among, mark_of, Loads, written_by, moved_by, is_division, sunk_by, is_protected}
+use Rattle.bl_cmd.specs.Sites.{Names, Among, mark_of, Loads, written_by, moved_by, sunk_by, is_protected}
 use Rattle.bl_cmd.specs.declared.command.Command.{Command}
 use Rattle.bl_cmd.specs.declared.command.Command.TheVariants as command
 use Rattle.bl_cmd.specs.declared.command.Mark.{Mark}

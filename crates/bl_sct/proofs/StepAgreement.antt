@@ -26,6 +26,7 @@ use Rattle.bl_cmd.specs.declared.command.Operand.{Operand}
 use Rattle.bl_cmd.specs.declared.command.Operand.TheVariants as operand
 use Rattle.bl_cmd.specs.declared.definitions.MemoryDef.{MemoryDef}
 use Rattle.bl_cmd.specs.declared.definitions.ProgramParts.{ProgramParts as Program}
+use Rattle.bl_cmd.proofs.ByteAgreement.{parts, overlay_same, overlay_other}
 use Rattle.bl_graph.specs.Labels.{KeepsLabelRules}
 use Rattle.bl_seq.specs.OwnMemory.{IsInside}
 use Rattle.bl_seq.proofs.OwnAccesses.{inside}
@@ -41,7 +42,6 @@ use Rattle.bl_rob.specs.declared.front.Front.{Front}
 use Rattle.bl_rob.proofs.FetchedRuns.{config_of, Follows, follows}
 use Rattle.bl_rob.proofs.PlainTracks.{Config, value_in, registers_after, space_after, next_at, next, run_on, IsThere}
 use Rattle.bl_sct.specs.Lockstep.{IsPublicPlace}
-use Rattle.bl_sct.proofs.ByteAgreement.{parts, overlay_same, overlay_other}
 use Rattle.bl_sct.proofs.Rules.{IsClear, IsPublicMemory, Labels, LabelsOf, labels_before}
 
 -- ---- one write each

@@ -9,7 +9,7 @@ ghost use Rattle.bl_cmd.specs.Steps.{held};
 ghost use Rattle.bl_seq.specs.Layouts.{IsLayout, ends_from, frame_of, frames_from, owners_from};
 
 use bl_base::NoMemory;
-use bl_cmd::{FunctionDef, MemoryDef, ProgramParts};
+use bl_cmd::{FIRST_ENTRY, FunctionDef, MemoryDef, ProgramParts};
 use std::alloc::Global;
 
 /// Where a function's commands and variables begin, and the numbers of its parameters and results.
@@ -118,7 +118,7 @@ fn frames_of(
     ensures { IfOk result (λ frames. frames.items ≡ frames_from 7 statics functions.now) }
 {
     let mut frames = Vec::new(alloc);
-    let mut entry = 7;
+    let mut entry = FIRST_ENTRY as usize;
     let mut first = statics;
     for function in functions {
         frames.push(Frame {
@@ -145,7 +145,7 @@ fn owners_of(alloc: Global, functions: &[FunctionDef]) -> Result<Vec<u32>, NoMem
     ensures { IfOk result (λ owners. owners.items ≡ replicate 7 0 ++ owners_from 0 functions.now) }
 {
     let mut owners = Vec::new(alloc);
-    push_owner(&mut owners, 0, 7)?;
+    push_owner(&mut owners, 0, FIRST_ENTRY)?;
     for (number, function) in functions.iter().enumerate() {
         push_owner(&mut owners, number as u32, function.length)?;
     }

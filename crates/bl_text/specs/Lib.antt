@@ -1,2 +1,4 @@
 pub mod Digits
+pub mod Items
+pub mod Lines
 pub mod Names

@@ -1,10 +1,7 @@
 pub mod StartFits
 pub mod HexBytes
 pub mod Operands
-pub mod LineSplits
-pub mod LineTexts
 pub mod TextPieces
 pub mod LineLemmas
 pub mod StartLemmas
-pub mod ItemLemmas
 pub mod WrittenTraces

@@ -1,15 +1,14 @@
 -- What lines say, line by line.
-use Rattle.std.proofs.Common.{◌≡◌, ℕ, ◌+◌, ◌-◌, ◌<◌, ◌==◌, List, [], ◌∷◌, ◌++◌, length, take, drop, Option, Some, None, Result, Ok, Err, sym, ap, ◌∙◌, arith, append_assoc, length-drop}
-use Rattle.std.proofs.lemmas.List.{length_push, take_rest, drop-drop}
-use Rattle.std.specs.List.{position_or_len, before_first, after_first}
+use Rattle.std.proofs.Common.{◌≡◌, ℕ, ◌+◌, List, [], ◌∷◌, ◌++◌, length, Option, Some, None, Result, Ok, Err, sym, ap, ◌∙◌, arith, append_assoc, append-nil}
+use Rattle.std.proofs.lemmas.List.{length_push}
 use Rattle.bl_base.specs.declared.names.ValueType.{ValueType}
+use Rattle.bl_base.specs.declared.start.Patch.{Patch}
 use Rattle.bl_base.specs.declared.start.Start.{Start}
 use Rattle.bl_trace.specs.declared.entry.Entry.{Entry}
 use Rattle.bl_trace.specs.declared.entry.Entry.TheVariants.{Argument, Contents}
-use Rattle.bl_trace.specs.Lines.{lines_of, entry_of}
+use Rattle.bl_trace.specs.Lines.{entry_of}
 use Rattle.bl_trace.specs.StartFiles.{arguments_in, said_before, said}
 use Rattle.bl_trace.specs.PartialStarts.{entry_behind}
-use Rattle.bl_trace.proofs.LineSplits.{first_line}
 
 -- a start and what is said behind so many lines
 abbrev pub behind : ℕ → Start → Result Start ℕ → Result Start ℕ
@@ -52,45 +51,27 @@ bad : (params : List ValueType) (sizes : List ℕ) (number : ℕ) (start : Start
 bad params sizes number start line lines is =
     ap (λ found. behind number start (by_entry params sizes (length start.args) lines found)) (sym is)
 
--- the first line of bytes that aren't empty
-line_of_some : (bytes : List ℕ) → 0 < length bytes →
-    lines_of bytes ≡ before_first (λ b. b == 10) bytes ∷ lines_of (after_first (λ b. b == 10) bytes)
-line_of_some [] some = absurd (omega (arith, some))
-line_of_some (byte ∷ bytes) some = first_line byte bytes
+-- the first of the lines that are left is bad
+pub bad_first : (params : List ValueType) (sizes : List ℕ) (number : ℕ) (start : Start) (left : List (List ℕ)) (line : List ℕ) (lines : List (List ℕ)) →
+    left ≡ line ∷ lines → None ≡ entry_of params sizes (length start.args) line →
+    behind number start (said params sizes (length start.args) left) ≡ Err (number + 1)
+bad_first params sizes number start left line lines first is =
+    ap (λ all. behind number start (said params sizes (length start.args) all)) first
+    ∙ bad params sizes number start line lines is
 
--- the line from a place on, and the lines behind it
-pub line_at : (bytes : List ℕ) (at place : ℕ) → at < length bytes →
-    place ≡ position_or_len (λ b. b == 10) (take (length bytes - at) (drop at bytes)) →
-    lines_of (drop at bytes) ≡ take (at + place - at) (drop at bytes) ∷ lines_of (drop (at + place + 1) bytes)
-line_at bytes at place inside is =
-    let first = line_of_some (drop at bytes) (omega (arith, length-drop at bytes)) in
-    let here : position_or_len (λ b. b == 10) (drop at bytes) ≡ place =
-    ap (position_or_len (λ b. b == 10)) (sym (take_rest bytes at)) ∙ sym is in
-    let long : place ≡ at + place - at = omega arith in
-    let further : at + (place + 1) ≡ at + place + 1 = omega arith in
-    first
-    ∙ ap (λ (n : ℕ). take n (drop at bytes) ∷ lines_of (drop (n + 1) (drop at bytes))) here
-    ∙ ap (λ rest. take place (drop at bytes) ∷ lines_of rest) (drop-drop (place + 1) at bytes)
-    ∙ ap (λ (n : ℕ). take place (drop at bytes) ∷ lines_of (drop n bytes)) further
-    ∙ ap (λ (n : ℕ). take n (drop at bytes) ∷ lines_of (drop (at + place + 1) bytes)) long
+-- it is read
+pub more_first : (params : List ValueType) (sizes : List ℕ) (number : ℕ) (start next : Start) (entry : Entry) (left : List (List ℕ)) (line : List ℕ) (lines : List (List ℕ)) →
+    left ≡ line ∷ lines → Some entry ≡ entry_of params sizes (length start.args) line → next ≡ entry_behind start entry →
+    behind number start (said params sizes (length start.args) left) ≡ behind (number + 1) next (said params sizes (length next.args) lines)
+more_first params sizes number start next entry left line lines first is added =
+    ap (λ all. behind number start (said params sizes (length start.args) all)) first
+    ∙ one_more params sizes number start line lines entry is
+    ∙ ap (λ (s : Start). behind (number + 1) s (said params sizes (length s.args) lines)) (sym added)
 
--- the line from a place on is bad
-pub bad_at : (params : List ValueType) (sizes bytes : List ℕ) (number : ℕ) (start : Start) (at place : ℕ) → at < length bytes →
-    place ≡ position_or_len (λ b. b == 10) (take (length bytes - at) (drop at bytes)) →
-    None ≡ entry_of params sizes (length start.args) (take (at + place - at) (drop at bytes)) →
-    behind number start (said params sizes (length start.args) (lines_of (drop at bytes))) ≡ Err (number + 1)
-bad_at params sizes bytes number start at place inside ends is =
-    ap (λ lines. behind number start (said params sizes (length start.args) lines)) (line_at bytes at place inside ends)
-    ∙ bad params sizes number start (take (at + place - at) (drop at bytes)) (lines_of (drop (at + place + 1) bytes)) is
-
--- the line from a place on is read
-pub more_at : (params : List ValueType) (sizes bytes : List ℕ) (number : ℕ) (start next : Start) (entry : Entry) (at place : ℕ) →
-    at < length bytes → place ≡ position_or_len (λ b. b == 10) (take (length bytes - at) (drop at bytes)) →
-    Some entry ≡ entry_of params sizes (length start.args) (take (at + place - at) (drop at bytes)) →
-    next ≡ entry_behind start entry →
-    behind number start (said params sizes (length start.args) (lines_of (drop at bytes))) ≡
-    behind (number + 1) next (said params sizes (length next.args) (lines_of (drop (at + place + 1) bytes)))
-more_at params sizes bytes number start next entry at place inside ends is added =
-    ap (λ lines. behind number start (said params sizes (length start.args) lines)) (line_at bytes at place inside ends)
-    ∙ one_more params sizes number start (take (at + place - at) (drop at bytes)) (lines_of (drop (at + place + 1) bytes)) entry is
-    ∙ ap (λ (s : Start). behind (number + 1) s (said params sizes (length s.args) (lines_of (drop (at + place + 1) bytes)))) (sym added)
+-- no line is left
+pub none_left : (params : List ValueType) (sizes : List ℕ) (number arguments : ℕ) (start : Start) (left : List (List ℕ)) → left ≡ [] →
+    behind number start (said params sizes arguments left) ≡ Ok start
+none_left params sizes number arguments start left none =
+    ap (λ all. behind number start (said params sizes arguments all)) none
+    ∙ ap (λ (args : List ℕ). Ok (record { args = args; patches = start.patches ++ [] })) (append-nil start.args)
+    ∙ ap (λ (patches : List Patch). Ok (record { args = start.args; patches = patches })) (append-nil start.patches)

@@ -6,9 +6,9 @@ use Rattle.std.specs.List.{position_or_len, before_first, after_first, list_all}
 use Rattle.std.specs.Char.{digit_value, is_digit}
 use Rattle.bl_base.specs.declared.names.ValueType.{ValueType}
 use Rattle.bl_text.specs.Digits.{decimal_below}
+use Rattle.bl_text.proofs.LineSplits.{one_part}
 use Rattle.bl_trace.specs.Digits.{byte_of, byte_and, bytes_of_hex}
 use Rattle.bl_trace.specs.Lines.{words_of, limit_of, argument_of, patch_by, patch_of}
-use Rattle.bl_trace.proofs.LineSplits.{one_part}
 
 -- a list with a space isn't one of digits alone
 with_space : (radix : ℕ) → is_digit 32 radix ≡ false → (xs : List ℕ) →

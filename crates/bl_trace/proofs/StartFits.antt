@@ -12,14 +12,15 @@ use Rattle.bl_base.specs.declared.names.ValueType.TheVariants.{I32, I64}
 use Rattle.bl_base.specs.declared.start.Patch.{Patch}
 use Rattle.bl_base.specs.declared.start.Start.{Start}
 use Rattle.bl_base.specs.Fits.{ArgumentFits, AreBytes, LiesIn, PatchFits, Fits}
+use Rattle.bl_text.specs.Digits.{decimal_below}
+use Rattle.bl_text.proofs.Decimals.{below_limit}
+use Rattle.bl_text.specs.Lines.{lines_of}
 use Rattle.bl_trace.specs.declared.entry.Entry.{Entry}
 use Rattle.bl_trace.specs.declared.entry.Entry.TheVariants.{Argument, Contents}
 use Rattle.bl_trace.specs.declared.error.StartError.{StartError}
 use Rattle.bl_trace.specs.declared.error.StartError.TheVariants.{Count}
-use Rattle.bl_text.specs.Digits.{decimal_below}
-use Rattle.bl_text.proofs.Decimals.{below_limit}
 use Rattle.bl_trace.specs.Digits.{byte_of, byte_and, bytes_of_hex}
-use Rattle.bl_trace.specs.Lines.{lines_of, words_of, limit_of, argument_of, lies_in, patch_by, patch_of, entry_by, entry_of}
+use Rattle.bl_trace.specs.Lines.{words_of, limit_of, argument_of, lies_in, patch_by, patch_of, entry_by, entry_of}
 use Rattle.bl_trace.specs.StartFiles.{answer_by, answer_of, arguments_in, said_before, said}
 
 -- an argument is one of a parameter that is left, a patch lies in its memory

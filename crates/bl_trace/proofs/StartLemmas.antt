@@ -4,11 +4,12 @@ use Rattle.std.proofs.lemmas.Bool.{le-ltb, lt-ltb, ltb-true, ltb-false}
 use Rattle.std.proofs.Math.Dec.{ltb}
 use Rattle.bl_base.specs.declared.names.ValueType.{ValueType}
 use Rattle.bl_base.specs.declared.start.Start.{Start}
+use Rattle.bl_text.specs.Lines.{lines_of}
 use Rattle.bl_trace.specs.declared.entry.Entry.{Entry}
 use Rattle.bl_trace.specs.declared.entry.Entry.TheVariants.{Argument, Contents}
 use Rattle.bl_trace.specs.declared.error.StartError.{StartError}
 use Rattle.bl_trace.specs.declared.error.StartError.TheVariants.{Line, Count}
-use Rattle.bl_trace.specs.Lines.{lines_of, entry_of}
+use Rattle.bl_trace.specs.Lines.{entry_of}
 use Rattle.bl_trace.specs.StartFiles.{arguments_in, said_before, said, answer_by, answer_of}
 use Rattle.bl_trace.specs.StartAnswers.{arguments, patches, AreEntries, Tells, start, bad, few}
 use Rattle.bl_trace.proofs.LineLemmas.{by_entry}

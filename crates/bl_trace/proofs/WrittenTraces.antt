@@ -1,11 +1,11 @@
 -- The line of a directive says it.
 use Rattle.std.proofs.Common.{◌≡◌, ◌∙◌, ap, refl, ℕ, ◌^◌, ◌<◌, Bool, true, false, ◌++◌, List, Option, Some, option_map, codes, arith}
 use Rattle.std.specs.Fmt.{decimal}
+use Rattle.bl_text.proofs.DecimalTexts.{are_digits, read_back}
+use Rattle.bl_text.proofs.LineTexts.{HasNoFeed, without_feeds}
 use Rattle.bl_rob.specs.declared.directive.Directive.{Directive}
 use Rattle.bl_rob.specs.declared.directive.Directive.TheVariants.{Fetch, Predict, Exec, Retire}
-use Rattle.bl_text.proofs.DecimalTexts.{are_digits, read_back}
 use Rattle.bl_trace.specs.Traces.{IsWritten, directive_of, directive_text}
-use Rattle.bl_trace.proofs.LineTexts.{HasNoFeed, without_feeds}
 
 pub reads_back : (directive : Directive) → IsWritten directive → directive_of (directive_text directive) ≡ Some directive
 reads_back Fetch is = refl

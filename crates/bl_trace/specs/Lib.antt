@@ -1,6 +1,5 @@
 pub mod StartFiles
 pub mod Digits
-pub mod Items
 pub mod Lines
 pub mod Observations
 pub mod PartialStarts

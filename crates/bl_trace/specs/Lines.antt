@@ -1,6 +1,6 @@
--- The lines of a start file, and what each of them says.
+-- What a line of a start file says.
 use Rattle.std.specs.Prelude.{ℕ, ◌+◌, ◌*◌, ◌^◌, Bool, false, ◌&&◌, ◌==◌, if◌then◌else◌, List, [], ◌∷◌, length, slice_get, Option, Some, None, option_map, nat_lt, nat_le, codes}
-use Rattle.std.specs.List.{slice_split, onto_first}
+use Rattle.std.specs.List.{slice_split}
 use Rattle.std.specs.Str.{bytes_eq}
 use Rattle.bl_base.specs.declared.names.ValueType.{ValueType}
 use Rattle.bl_base.specs.declared.names.ValueType.TheVariants.{I32, I64}
@@ -9,11 +9,6 @@ use Rattle.bl_text.specs.Digits.{decimal_below}
 use Rattle.bl_trace.specs.Digits.{bytes_of_hex}
 use Rattle.bl_trace.specs.declared.entry.Entry.{Entry}
 use Rattle.bl_trace.specs.declared.entry.Entry.TheVariants.{Argument, Contents}
-
--- the lines of a file: each ends with LF, the byte 10, which the last one may lack
-abbrev pub lines_of : List ℕ → List (List ℕ)
-lines_of [] = []
-lines_of (byte ∷ bytes) = if byte == 10 then [] ∷ lines_of bytes else onto_first byte (lines_of bytes)
 
 -- the words of a line, which single spaces part, the byte 32
 abbrev pub words_of : List ℕ → List (List ℕ)

@@ -2,11 +2,12 @@
 use Rattle.std.specs.Prelude.{◌≡◌, ℕ, ◌+◌, if◌then◌else◌, List, [], ◌∷◌, length, Some, None, Result, Ok, Err, nat_lt}
 use Rattle.bl_base.specs.declared.names.ValueType.{ValueType}
 use Rattle.bl_base.specs.declared.start.Start.{Start}
+use Rattle.bl_text.specs.Lines.{lines_of}
 use Rattle.bl_trace.specs.declared.entry.Entry.{Entry}
 use Rattle.bl_trace.specs.declared.entry.Entry.TheVariants.{Argument, Contents}
 use Rattle.bl_trace.specs.declared.error.StartError.{StartError}
 use Rattle.bl_trace.specs.declared.error.StartError.TheVariants.{Line, Count, Memory}
-use Rattle.bl_trace.specs.Lines.{lines_of, entry_of}
+use Rattle.bl_trace.specs.Lines.{entry_of}
 
 -- how many arguments an entry is
 abbrev pub arguments_in : Entry → ℕ

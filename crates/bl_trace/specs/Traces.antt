@@ -3,11 +3,11 @@ use Rattle.std.specs.Prelude.{◌≡◌, ℕ, ◌^◌, ◌<◌, true, false, if�
 use Rattle.std.specs.Fmt.{decimal}
 use Rattle.std.specs.List.{flat_map}
 use Rattle.std.specs.Str.{bytes_eq}
+use Rattle.bl_text.specs.Digits.{decimal_below}
+use Rattle.bl_text.specs.Items.{items_of}
+use Rattle.bl_text.specs.Lines.{lines_of}
 use Rattle.bl_rob.specs.declared.directive.Directive.{Directive}
 use Rattle.bl_rob.specs.declared.directive.Directive.TheVariants.{Fetch, Predict, Exec, Retire}
-use Rattle.bl_text.specs.Digits.{decimal_below}
-use Rattle.bl_trace.specs.Items.{items_of}
-use Rattle.bl_trace.specs.Lines.{lines_of}
 use Rattle.bl_trace.specs.declared.error.TraceError.{TraceError}
 use Rattle.bl_trace.specs.declared.error.TraceError.TheVariants.{Line, Memory}
 

@@ -4,11 +4,11 @@ ghost use Rattle.std.specs.List.{All};
 ghost use Rattle.bl_base.specs.Fits.{Fits};
 ghost use Rattle.bl_base.specs.declared.names.ValueType.{ValueType};
 ghost use Rattle.bl_base.specs.declared.start.Start.{Start};
+ghost use Rattle.bl_text.specs.Items.{TellItems};
+ghost use Rattle.bl_text.specs.Lines.{lines_of};
 ghost use Rattle.bl_rob.specs.declared.directive.Directive.{Directive};
 ghost use Rattle.bl_trace.specs.declared.error.StartError.{StartError};
 ghost use Rattle.bl_trace.specs.StartFiles.{answer_of};
-ghost use Rattle.bl_trace.specs.Items.{TellItems};
-ghost use Rattle.bl_trace.specs.Lines.{lines_of};
 ghost use Rattle.bl_trace.specs.StartAnswers.{Tells};
 ghost use Rattle.bl_trace.specs.Traces.{IsWritten, directive_of, trace_of, trace_text};
 

@@ -12,7 +12,6 @@ mod read;
 mod trace;
 
 pub use error::{StartError, TraceError};
-pub use line::place_of;
 pub use observation::{guarded, print_observation};
 pub use read::read_start;
 pub use trace::{count_lines, read_trace, trace_text};

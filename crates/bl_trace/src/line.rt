@@ -1,26 +1,13 @@
 //! What a line of a start file says.
-ghost use Rattle.std.specs.Prelude.{◌≡◌, ◌+◌, ◌^◌, ◌≤◌, ◌==◌, IfOk, MatchOption, [], ◌∷◌, length};
-ghost use Rattle.std.specs.List.{position_or_len};
+ghost use Rattle.std.specs.Prelude.{◌≡◌, ◌+◌, ◌^◌, IfOk, MatchOption, [], ◌∷◌};
 ghost use Rattle.bl_text.specs.Digits.{decimal_below};
 ghost use Rattle.bl_trace.specs.Lines.{words_of, limit_of, argument_of, lies_in, patch_by, patch_of, entry_by};
 
 use crate::digits::read_hex;
 use crate::entry::Entry;
 use bl_base::{NoMemory, Patch, Text, ValueType};
-use bl_text::read_decimal;
+use bl_text::{place_of, read_decimal};
 use std::alloc::Global;
-
-/// The place of the first such byte; the length where there is none.
-pub fn place_of(bytes: &[u8], byte: u8) -> usize
-    ensures place { result ≡ position_or_len (λ b. b == byte) bytes.now }
-    ensures within { result ≤ length bytes.now }
-{
-    let mut place = 0;
-    while place < bytes.len() && bytes[place] != byte {
-        place += 1;
-    }
-    place
-}
 
 /// The bytes before the first space and those behind it; None where there is no space.
 fn cut(text: &[u8]) -> Option<(&[u8], &[u8])>

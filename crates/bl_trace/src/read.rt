@@ -1,14 +1,15 @@
 //! A start file, read line by line.
 ghost use Rattle.std.specs.Prelude.{◌≡◌, IfOk, OnOk, slice_get};
 ghost use Rattle.bl_base.specs.Fits.{Fits};
+ghost use Rattle.bl_text.specs.Lines.{lines_of};
 ghost use Rattle.bl_trace.specs.StartFiles.{said, answer_of, IsAnswer};
-ghost use Rattle.bl_trace.specs.Lines.{lines_of};
 ghost use Rattle.bl_trace.specs.PartialStarts.{entry_behind, IsRead};
 
 use crate::entry::Entry;
 use crate::error::StartError;
-use crate::line::{place_of, read_line};
+use crate::line::read_line;
 use bl_base::{List, NoMemory, Start, ValueType};
+use bl_text::Lines;
 use std::alloc::Global;
 
 /// The type of a parameter, counted from 0; None beyond the last.
@@ -41,17 +42,14 @@ fn read_lines(
         args: List::new(alloc),
         patches: List::new(alloc),
     };
-    let mut at = 0;
     let mut number = 0u64;
-    while at < bytes.len() {
+    for line in Lines::of(bytes) {
         number += 1;
-        let end = at + place_of(&bytes[at..], b'\n');
         let kind = parameter(params, start.args.len());
-        let Some(entry) = read_line(alloc, &bytes[at..end], kind, sizes)? else {
+        let Some(entry) = read_line(alloc, line, kind, sizes)? else {
             return Err(StartError::Line(number));
         };
         add(&mut start, entry)?;
-        at = end + 1;
     }
     Ok(start)
 }

@@ -1,28 +1,20 @@
 //! A trace file, read line by line.
 ghost use Rattle.std.specs.Prelude.{◌≡◌, ◌++◌, ◌∷◌, [], IfOk, OnOk, codes, length};
 ghost use Rattle.std.specs.Fmt.{decimal};
-ghost use Rattle.bl_trace.specs.Lines.{lines_of};
+ghost use Rattle.bl_text.specs.Lines.{lines_of};
 ghost use Rattle.bl_trace.specs.Traces.{IsTrace, directive_of, directive_text, executed, trace_of, trace_text};
 
 use crate::error::TraceError;
-use crate::line::place_of;
 use bl_base::{List, NoMemory};
 use bl_rob::Directive;
-use bl_text::read_decimal;
+use bl_text::{Lines, read_decimal};
 use std::alloc::Global;
 
 /// The number of lines of a file: each ends with LF, which the last one may lack. Takes no memory.
 pub fn count_lines(bytes: &[u8]) -> u64
     ensures { result ≡ length (lines_of bytes.now) }
 {
-    let mut at = 0;
-    let mut count = 0u64;
-    while at < bytes.len() {
-        count += 1;
-        let end = at + place_of(&bytes[at..], b'\n');
-        at = end + 1;
-    }
-    count
+    Lines::of(bytes).count() as u64
 }
 
 /// The directives of a trace file.
@@ -34,16 +26,13 @@ pub fn read_trace(alloc: Global, bytes: &[u8]) -> Result<List<Directive>, TraceE
     ensures { IsTrace (trace_of bytes.now) result }
 {
     let mut directives = List::new(alloc);
-    let mut at = 0;
     let mut number = 0u64;
-    while at < bytes.len() {
+    for line in Lines::of(bytes) {
         number += 1;
-        let end = at + place_of(&bytes[at..], b'\n');
-        let Some(directive) = read_directive(&bytes[at..end]) else {
+        let Some(directive) = read_directive(line) else {
             return Err(TraceError::Line(number));
         };
         directives.push(directive)?;
-        at = end + 1;
     }
     Ok(directives)
 }

@@ -5,6 +5,7 @@ use Rattle.std.specs.List.{Contains}
 use Rattle.std.proofs.lemmas.List.Elements.{Contains-append_cases, Contains-append_left, Contains-append_right}
 use Rattle.std.proofs.lemmas.Option.{none-some, same_Some}
 use Rattle.bl_base.specs.declared.number.Pos.{Pos}
+use Rattle.bl_base.proofs.Members.{first_in, in_cases, later_in, none_in}
 use Rattle.bl_cmd.specs.Sites.{Writes}
 use Rattle.bl_cmd.specs.declared.definitions.ProgramParts.{ProgramParts as Program}
 use Rattle.bl_graph.specs.Arcs.{is_in}
@@ -12,7 +13,6 @@ use Rattle.bl_graph.specs.Graphs.{use_of, IsGraph}
 use Rattle.bl_graph.specs.Names.{AreNames, place_of}
 use Rattle.bl_graph.specs.declared.facts.Graph.{Graph}
 use Rattle.bl_graph.specs.declared.facts.Use.{Use}
-use Rattle.bl_graph.proofs.Members.{first_in, in_cases, later_in, none_in}
 use Rattle.bl_graph.proofs.NameLemmas.{at_place, reads_named, sinks_named, uses_are, writes_named}
 use Rattle.bl_graph.specs.WrittenVariables.{AreUnprotected, noted}
 use Rattle.bl_transient.specs.Reachability.{FirstSink, firm_loads, firm_noted, firm_one, firm_reads, kept_if, noted_load, noted_read}

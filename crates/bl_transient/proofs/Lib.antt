@@ -1,11 +1,8 @@
-pub mod AskedLists
 pub mod BarredUses
 pub mod FirstSinks
 pub mod UnprotectedWrites
-pub mod OwnProtects
 pub mod TransientTypings
 pub mod SearchMarks
 pub mod ChainsMet
 pub mod NamedSearch
-pub mod PositionSets
 pub mod LeastTypings

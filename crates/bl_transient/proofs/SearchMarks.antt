@@ -8,9 +8,9 @@ use Rattle.std.proofs.Math.Seq.{take-append_seam}
 use Rattle.std.proofs.lemmas.List.Sums.{sum_by-set}
 use Rattle.std.proofs.lemmas.List.Elements.{Contains-push_cases, Contains-append_left, Contains-push, Contains-get_or}
 use Rattle.bl_base.proofs.Lists.{replicate_or}
+use Rattle.bl_base.proofs.Members.{none_in}
 use Rattle.bl_graph.specs.Arcs.{row_at, is_in, unmarked}
 use Rattle.bl_transient.specs.Reachability.{Reached, root, step, IsVisited, SearchState}
-use Rattle.bl_graph.proofs.Members.{none_in}
 
 -- the marks that a slice of a vector leaves
 pub given_back : (new rest : List Bool) (n : ℕ) → n ≡ length new → take n (new ++ rest) ≡ new

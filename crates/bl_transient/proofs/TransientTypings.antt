@@ -4,12 +4,12 @@ use Rattle.std.specs.Prelude.{IsTrue, ◌↔◌}
 use Rattle.std.specs.List.{Contains, All}
 use Rattle.std.proofs.lemmas.Bool.{false≢true}
 use Rattle.bl_base.specs.declared.names.Flow.{Flow}
+use Rattle.bl_base.proofs.Members.{none_in}
 use Rattle.bl_cmd.specs.declared.definitions.ProgramParts.{ProgramParts as Program}
 use Rattle.bl_graph.specs.Graphs.{use_of, IsGraph}
 use Rattle.bl_graph.specs.Ranges.{commands, variables, AreInRange}
 use Rattle.bl_graph.specs.declared.facts.Graph.{Graph}
 use Rattle.bl_graph.proofs.ChainLemmas.{all_from}
-use Rattle.bl_graph.proofs.Members.{none_in}
 use Rattle.bl_graph.proofs.RangeLemmas.{writes_one}
 use Rattle.bl_graph.specs.Arcs.{is_in}
 use Rattle.bl_graph.specs.WrittenVariables.{AreUnprotected, noted}

@@ -5,12 +5,12 @@ use Rattle.std.specs.List.{All, Contains}
 use Rattle.std.proofs.lemmas.Option.{none-some, same_Some}
 use Rattle.std.proofs.lemmas.List.Elements.{All-append, All-contains, Contains-append_left, Contains-append_right, Contains-append_cases}
 use Rattle.bl_base.specs.declared.number.Pos.{Pos}
+use Rattle.bl_base.proofs.Members.{first_in, later_in, in_cases, none_in}
 use Rattle.bl_graph.specs.Arcs.{RowsOf, is_in, row_at}
 use Rattle.bl_graph.specs.Graphs.{use_of}
 use Rattle.bl_graph.specs.WrittenVariables.{noted}
 use Rattle.bl_graph.specs.declared.facts.Use.{Use}
 use Rattle.bl_graph.proofs.ChainLemmas.{all_from}
-use Rattle.bl_graph.proofs.Members.{first_in, later_in, in_cases, none_in}
 use Rattle.bl_transient.specs.Reachability.{Reached, Spread, begun, filled, led, listed, moved_to, moves_from, root, roots_from, step}
 use Rattle.bl_graph.specs.declared.arcs.Arc.{Arc}
 

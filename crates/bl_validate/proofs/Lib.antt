@@ -5,4 +5,3 @@ pub mod ModuleRuleLemmas
 pub mod OperandLemmas
 pub mod Reasons
 pub mod Spaces
-pub mod BodyTypings

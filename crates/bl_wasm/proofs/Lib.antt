@@ -9,3 +9,8 @@ mod WorkedModules
 pub mod SequenceLemmas
 pub mod SpellingLemmas
 mod WorkedTypings
+pub mod LocalCounts
+pub mod SpelledGlobals
+pub mod BodyTypings
+pub mod NestingDepths
+pub mod MovedTypings

@@ -24,16 +24,16 @@ use Rattle.bl_wasm.specs.declared.types.FuncType.{FuncType}
 use Rattle.bl_cmd.specs.Layout.{sum_before}
 use Rattle.bl_cmd.specs.declared.definitions.MemoryDef.{MemoryDef}
 use Rattle.bl_cmd.specs.declared.definitions.ExportDef.{ExportDef}
+use Rattle.bl_cmd.proofs.AppendLemmas.{get_left, get_right}
 use Rattle.bl_lower.specs.Trees.{export_def, low_tree, memory_def}
 use Rattle.bl_iface.specs.JoinedProgram.{HasSameTypes, IsNew, is_named, kept}
 use Rattle.bl_iface.specs.declared.iface.Iface.{Iface}
-use Rattle.bl_iface.proofs.AppendLemmas.{get_left, get_right}
 use Rattle.bl_reduce.specs.Runnable.{IsRunnable}
 use Rattle.bl_wasm.specs.IndexMaps.{Names, renamed as item_by}
+use Rattle.bl_wasm.proofs.MovedTypings.{Carries, immediate_by, types_by}
 use Rattle.bl_rename.specs.Renamings.{function_by}
 use Rattle.bl_whole.specs.JoinedTree.{behind, client_names, joined_tree, kept_in, library_names}
 use Rattle.bl_whole.proofs.PartTrees.{Placed}
-use Rattle.bl_whole.proofs.MovedTypings.{Carries, immediate_by, types_by}
 use Rattle.bl_whole.proofs.JoinedPlaces.{our_place, their_place}
 use Rattle.bl_whole.proofs.JoinedTrees.{kept_same}
 

@@ -8,6 +8,7 @@ use Rattle.bl_wasm.specs.declared.linked.Tree.{Tree}
 use Rattle.bl_cmd.specs.Layout.{entry_of, first_of, results_of, result as result_in, statics as statics_of}
 use Rattle.bl_cmd.specs.Rules.{IsLocal, IsOwn, IsResult}
 use Rattle.bl_cmd.specs.declared.definitions.ProgramParts.{ProgramParts as Program}
+use Rattle.bl_cmd.proofs.AppendLemmas.{get_left, get_right}
 use Rattle.bl_emit.specs.Shapes.{result}
 use Rattle.bl_emit.specs.Numbers.{counts_of, function_size, function_variables, shape}
 use Rattle.bl_lower.specs.Trees.{function_def, global_def, low_tree, memory_def}
@@ -17,12 +18,11 @@ use Rattle.bl_lower.proofs.WellFormed.{facts}
 use Rattle.bl_reduce.specs.Runnable.{runnable}
 use Rattle.bl_iface.specs.JoinedProgram.{HasSameTypes, Renaming, client_numbers, client_read, client_shift, goes, library_numbers, library_shift, moved_var, owner}
 use Rattle.bl_iface.specs.declared.iface.Iface.{Iface}
-use Rattle.bl_iface.proofs.AppendLemmas.{get_left, get_right}
 use Rattle.bl_iface.proofs.JoinedReads.{owner_is, plain_read, read_cases, result_by}
 use Rattle.bl_iface.proofs.ShiftedPart.{moved_above, moved_below, moved_cases, moved_own}
 use Rattle.bl_wasm.specs.IndexMaps.{Names}
+use Rattle.bl_access.proofs.Moving.{up, up_is}
 use Rattle.bl_whole.specs.JoinedTree.{client_names, joined_tree, library_names}
-use Rattle.bl_whole.proofs.Moving.{up, up_is}
 use Rattle.bl_whole.proofs.PartCommands.{Sits}
 use Rattle.bl_whole.proofs.JoinedPlaces.{goes_same, our_size, our_total, our_variables, their_size, their_total, their_variables, type_ours, type_theirs}
 

@@ -13,19 +13,19 @@ use Rattle.bl_wasm.specs.declared.linked.Signature.{Signature}
 use Rattle.bl_wasm.specs.declared.linked.Tree.{Tree}
 use Rattle.bl_cmd.specs.declared.definitions.FunctionDef.{FunctionDef}
 use Rattle.bl_cmd.specs.declared.definitions.ProgramParts.{ProgramParts as Program}
+use Rattle.bl_cmd.proofs.AppendLemmas.{get_left, get_right}
 use Rattle.bl_emit.specs.Numbers.{function_size, function_variables, total}
 use Rattle.bl_lower.specs.Trees.{export_def, low_tree}
 use Rattle.bl_lower.proofs.DefinedFunctions.{has_type, is_defined}
 use Rattle.bl_iface.specs.JoinedProgram.{HasSameTypes, Renaming, client_numbers, exported, goes, goes_by, kinds, library_numbers, types_of}
 use Rattle.bl_iface.specs.declared.iface.FnIface.{FnIface}
 use Rattle.bl_iface.specs.declared.iface.Iface.{Iface}
-use Rattle.bl_iface.proofs.AppendLemmas.{get_left, get_right}
 use Rattle.bl_iface.proofs.JoinedReads.{stands_for}
 use Rattle.bl_wasm.specs.Exports.{number_of}
 use Rattle.bl_wasm.specs.IndexMaps.{Names}
 use Rattle.bl_rename.specs.Renamings.{function_by}
+use Rattle.bl_access.proofs.Moving.{get_map}
 use Rattle.bl_whole.specs.JoinedTree.{behind, client_names, goes_among, joined_tree, library_names}
-use Rattle.bl_whole.proofs.Moving.{get_map}
 use Rattle.bl_whole.proofs.PartTrees.{Placed, size_same, total_same, variables_same}
 
 -- ---- where functions go

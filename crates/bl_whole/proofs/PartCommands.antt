@@ -15,6 +15,7 @@ use Rattle.bl_cmd.specs.declared.command.Command.{Command}
 use Rattle.bl_cmd.specs.declared.command.Operand.{Operand}
 use Rattle.bl_cmd.specs.declared.command.Operand.TheVariants.{Const}
 use Rattle.bl_access.specs.Templates.{jump_to, shift}
+use Rattle.bl_access.proofs.Moving.{Ups, up, up_shift, up_sum}
 use Rattle.bl_emit.specs.Shapes.{Counts, Shape, Slot, armed, bottom, local, mistyped, result, uninitialized}
 use Rattle.bl_emit.specs.Constructs.{moves, outs, pad, point}
 use Rattle.bl_emit.specs.LoweredBodies.{Body, Extent, Lowered, Reached, low, off, on}
@@ -30,7 +31,6 @@ use Rattle.bl_iface.specs.JoinedProgram.{Renaming, renamed}
 use Rattle.bl_wasm.specs.IndexMaps.{Names}
 use Rattle.bl_rename.specs.Renamings.{function_by}
 use Rattle.bl_whole.specs.JoinedTree.{behind}
-use Rattle.bl_whole.proofs.Moving.{Ups, up, up_shift, up_sum}
 use Rattle.bl_whole.proofs.RenamedTemplates.{moved_all, moved_stack, moves_by, outs_by, padded_by}
 use Rattle.bl_whole.proofs.Settings.{AllFew, AllLead, Fits, FitsIn, Leads, Moves, Setting, body_by, reached_to}
 use Rattle.bl_whole.proofs.RenamedNames.{Named, nested_by}

@@ -33,8 +33,8 @@ use Rattle.bl_lower.proofs.Typings.{nested_body}
 use Rattle.bl_iface.specs.JoinedProgram.{Renaming}
 use Rattle.bl_wasm.specs.IndexMaps.{Names, renamed_block_type}
 use Rattle.bl_rename.specs.Renamings.{function_by}
+use Rattle.bl_access.proofs.Moving.{get_map}
 use Rattle.bl_whole.specs.JoinedTree.{behind}
-use Rattle.bl_whole.proofs.Moving.{get_map}
 use Rattle.bl_whole.proofs.Settings.{AllAlike, AllIn, Alike, Setting, SizeFits, slot_to}
 use Rattle.bl_whole.proofs.RenamedSizes.{extent_by}
 use Rattle.bl_whole.proofs.RenamedNames.{Named, all_in, all_named, each_of_both, nested_by}

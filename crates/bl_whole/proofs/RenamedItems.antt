@@ -9,6 +9,7 @@ use Rattle.bl_cmd.specs.declared.command.Command.{Command}
 use Rattle.bl_cmd.specs.declared.command.Command.TheVariants as command
 use Rattle.bl_cmd.specs.declared.command.Operand.{Operand}
 use Rattle.bl_access.specs.Templates.{chain, chain_from, jump_to, set, shift, test_of}
+use Rattle.bl_access.proofs.Moving.{get_map, up, up_shift, up_sum, ups_within}
 use Rattle.bl_emit.specs.Shapes.{Counts, Slot, armed, bottom, mistyped, result_reads, uninitialized}
 use Rattle.bl_emit.specs.Constructs.{Point, Target, args, branched, first_to, mark_of, moves, onto, outs, pad, point, reads, start_of, taken, top}
 use Rattle.bl_emit.specs.Items.{after, arm_size, arms, arms_from, branch_size, check_new, check_of, check_size, checks, hit_of, hits_from, indirect_size, leaving, left, right, size_to, slot_arm, slot_arms, slot_head, template, to_label}
@@ -18,7 +19,6 @@ use Rattle.bl_lower.proofs.IndexTests.{arms_from_length, hits_from_length}
 use Rattle.bl_lower.proofs.Sizes.{padded_length, reads_length}
 use Rattle.bl_iface.specs.JoinedProgram.{Renaming, operand_by, renamed}
 use Rattle.bl_wasm.specs.IndexMaps.{renamed as item_by}
-use Rattle.bl_whole.proofs.Moving.{get_map, up, up_shift, up_sum, ups_within}
 use Rattle.bl_whole.proofs.RenamedTemplates.{args_by, below_by, chain_by, checks_by, growth_by, left_by, moved_all, moved_stack, moves_by, outs_by, padded_by, result_reads_by, right_by, stacked_by, top_by}
 use Rattle.bl_whole.proofs.Settings.{AllFew, AllLead, AllReady, Fits, Leads, Moves, ReadyFor, Setting, mine, point_to, slot_to, target_to, theirs}
 use Rattle.bl_whole.proofs.RenamedSizes.{all_alike, arm_size_by, calls, calls_there, first_kind, indirect_by, lead_rest, loops_to, ready_get, size_to_by, start_to, taken_to, takes_to, targets_to}

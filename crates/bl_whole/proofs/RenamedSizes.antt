@@ -9,7 +9,7 @@ use Rattle.bl_emit.specs.Constructs.{Kind, Target, again, loops, looped, part, s
 use Rattle.bl_emit.specs.Items.{arm_size, arms_size, branch_size, branch_sizes, calls_in, head_size, indirect_size, left_new, left_size, pushes_of, size_of, size_to, temps_of}
 use Rattle.bl_emit.specs.LoweredBodies.{Body, Extent, block, choice, closed_size, done, joined, leave, loop, size_in, step, takes_of}
 use Rattle.bl_wasm.specs.IndexMaps.{renamed as item_by}
-use Rattle.bl_whole.proofs.Moving.{get_map, up}
+use Rattle.bl_access.proofs.Moving.{get_map, up}
 use Rattle.bl_whole.proofs.Settings.{AllAlike, AllLead, AllReady, Fits, FitsIn, SizeFits, SizeFitsIn, ReadyFor, Setting, body_by, kind_to, mine, slot_to, target_to, theirs}
 
 module _ (s : Setting) where

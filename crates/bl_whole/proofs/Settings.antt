@@ -9,7 +9,7 @@ use Rattle.bl_emit.specs.Constructs.{Kind, Point, Target, again, first_to, part,
 use Rattle.bl_emit.specs.LoweredBodies.{Body, Reached, block, choice, done, leave, loop, off, on, step}
 use Rattle.bl_iface.specs.JoinedProgram.{Renaming}
 use Rattle.bl_wasm.specs.IndexMaps.{Names, renamed as item_by, renamed_block_type}
-use Rattle.bl_whole.proofs.Moving.{Ups, up}
+use Rattle.bl_access.proofs.Moving.{Ups, up}
 use Rattle.bl_whole.proofs.RenamedTemplates.{moved_stack}
 
 -- the numbers of a part and of the whole: how its variables and positions move, and the function whose body this is

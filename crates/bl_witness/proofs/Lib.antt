@@ -1,7 +1,6 @@
 pub mod CertificateVerdicts
 pub mod VerdictParts
 pub mod ChainLinks
-pub mod ProtectedWeights
 pub mod UsePlaces
 pub mod ReadBack
 pub mod RoundTrip

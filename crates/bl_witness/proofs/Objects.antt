@@ -4,7 +4,7 @@ use Rattle.std.specs.Prelude.{if◌then◌else◌, option_and_then, option_map}
 use Rattle.std.proofs.lemmas.Slice.Eq.{bytes_eq-Decides}
 use Rattle.serde_json.specs.Data.{Data, Members, no_members, object, put}
 use Rattle.serde_json.specs.Events.{members_len}
-use Rattle.serde_json.specs.Find.{as_array, as_object, get_member}
+use Rattle.serde_json.specs.Find.{get_member}
 use Rattle.serde_json.proofs.Views.{get_member-put, get_member-put_other}
 use Rattle.bl_witness.specs.Fields.{IsCertificateMembers, IsPathMembers, certificate_from, certificate_keys, has_others, is_one_of, path_from, path_keys, with_certificate_member, with_path_member}
 use Rattle.bl_witness.specs.Shapes.{certificate_of, field, list_of, path_of, position_of, whole_below}
@@ -197,17 +197,6 @@ module _ (ms : Members) where
           let p = some_member (list_of path_of) (get_member (codes "paths") ms) there.0.0 there.0.1 in
           let w = some_member (whole_below (2 ^ 64)) (get_member (codes "weight") ms) there.1.0 there.1.1 in
           len_is (has_others certificate_keys ms) (members_len ms) _ 2 (counted certificate_keys (refl, (refl, tt)) ms is.rise) (rw (p, w) refl)
-
--- what isn't an object is neither
-pub no_path : (d : Data) → as_object d ≡ None → None ≡ path_of d
-no_path d e = rw e refl
-
-pub no_certificate : (d : Data) → as_object d ≡ None → None ≡ certificate_of d
-no_certificate d e = rw e refl
-
--- and what isn't an array is no list
-pub no_list : {A : Type 0} (f : Data → Option A) (d : Data) → as_array d ≡ None → None ≡ list_of f d
-no_list f d e = rw e refl
 
 -- nothing is read so far
 pub no_path_members : IsPathMembers no_members (record { amount = None; sink = None; sites = None; others = false })

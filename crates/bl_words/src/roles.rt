@@ -2,7 +2,7 @@
 ghost use Rattle.std.specs.Prelude.{◌≡◌};
 ghost use Rattle.bl_words.specs.Requests.{role_of};
 
-use bl_iface::Role;
+use bl_base::Role;
 
 /// The side of an interface that a word names.
 pub fn read_role(word: &str) -> Option<Role>

@@ -1,6 +1,5 @@
 //! What the words of a call ask for.
-use bl_base::List;
-use bl_iface::Role;
+use bl_base::{List, Role};
 
 /// What the words of a call ask for.
 ///

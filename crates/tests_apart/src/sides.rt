@@ -2,11 +2,10 @@
 //! follows from the two commands, at 7 and 8, by the transient rules.
 ghost use Rattle.bl_iface.specs.InterfaceFunctions.{Matches};
 
-use bl_base::{NoMemory, Pos};
+use bl_base::{NoMemory, Pos, Role};
 use bl_cmd::WellFormed;
 use bl_iface::{
-    Iface, IfaceError, Role, UnderError, UnderVerdict, least_under, passes_under, read_iface,
-    unmatched,
+    Iface, IfaceError, UnderError, UnderVerdict, least_under, passes_under, read_iface, unmatched,
 };
 use bl_image::{ImageError, decode_image};
 use std::alloc::Global;

@@ -1,6 +1,5 @@
 //! What the words of calls ask for.
-use bl_base::NoMemory;
-use bl_iface::Role;
+use bl_base::{NoMemory, Role};
 use bl_words::{
     HardenWords, InterpWords, JoinWords, LowerWords, PartWords, PredictWords, Request, RunWords,
     SpecWords, TwinWords, read_words,

@@ -1,7 +1,7 @@
 use Rattle.std.proofs.Common.{◌<◌, ◌≤◌, length, ap, subst}
 use Rattle.bl_base.specs.Quantity.{limit_of}
 use Rattle.bl_base.specs.declared.quantity.Quantity.TheVariants as quantity
-use Rattle.bl_trace.specs.Lines.{lines_of}
+use Rattle.bl_text.specs.Lines.{lines_of}
 use Rattle.bl_job.specs.Refusals.{limit}
 use Rattle.bl_build.specs.TraceStages.{TracingRefuses, too_many}
 use Rattle.bl_job.proofs.StageLemmas.{told_as}

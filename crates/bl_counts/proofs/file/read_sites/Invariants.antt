@@ -1,19 +1,15 @@
-use Rattle.std.proofs.Common.{◌≡◌, ◌≤◌, ◌<◌, ◌+◌, ◌-◌, ◌^◌, length, drop}
+use Rattle.std.proofs.Common.{◌≡◌, ◌≤◌, ◌<◌, ◌+◌, ◌^◌, length}
 use Rattle.std.specs.List.{All}
+use Rattle.bl_text.specs.Items.{items_of}
+use Rattle.bl_text.specs.Lines.{lines_left, lines_of}
+use Rattle.bl_text.proofs.ItemLemmas.{so_far}
 use Rattle.bl_counts.specs.CountFiles.{site_of}
-use Rattle.bl_trace.specs.Items.{items_of}
-use Rattle.bl_trace.specs.Lines.{lines_of}
-use Rattle.bl_trace.proofs.ItemLemmas.{so_far}
 use Rattle.bl_counts.proofs.file.read_sites.Given as goal
 
 -- the sites so far and those of the rest are the file's
-abbrev pub invariant-loop-at : goal.invariant-loop-at
-invariant-loop-at l = record {
-  within : l.at ≤ length l.bytes + 1;
-  numbers : l.number ≤ l.at;
+abbrev pub invariant-loop-line : goal.invariant-loop-line
+invariant-loop-line l = record {
+  numbers : l.number + length (lines_left l.line-iterator) ≤ length l.fn.bytes;
   small : All (λ one. one.count < 2 ^ 32) l.counts;
-  rest : items_of site_of (lines_of l.bytes) ≡ so_far site_of l.number l.counts (items_of site_of (lines_of (drop l.at l.bytes)));
+  rest : items_of site_of (lines_of l.fn.bytes) ≡ so_far site_of l.number l.counts (items_of site_of (lines_left l.line-iterator));
 }
-
-abbrev pub decreases-loop-at : goal.decreases-loop-at
-decreases-loop-at l = length l.bytes + 1 - l.at

@@ -1,5 +1,5 @@
 use Rattle.std.proofs.Common.{map}
-use Rattle.bl_ct.proofs.ChainExclusion.{chain_not}
+use Rattle.bl_graph.proofs.ChainExclusion.{chain_not}
 use Rattle.bl_ct.proofs.laws.chains_exclude_labellings.Goals as goal
 
 pub returns : goal.returns

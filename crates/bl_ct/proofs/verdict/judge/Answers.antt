@@ -3,9 +3,9 @@ use Rattle.std.specs.Prelude.{◌↔◌, IsTrue}
 use Rattle.std.specs.List.{slice_index_or}
 use Rattle.bl_graph.specs.SecretChains.{IsSecretChain}
 use Rattle.bl_graph.specs.Secrets.{Demands}
+use Rattle.bl_graph.proofs.ChainExclusion.{chain_not}
 use Rattle.bl_ct.specs.declared.search.Step.{Step}
 use Rattle.bl_ct.specs.SecretSearch.{AreEnds, Searched, AreJustified, mark_of}
-use Rattle.bl_ct.proofs.ChainExclusion.{chain_not}
 use Rattle.bl_ct.proofs.CtVerdicts.{are_secrets, demanded_exact, leaks, steps_small}
 use Rattle.bl_ct.proofs.KnownRanges.{demanded_in, names_few, names_rise, secret_in, secrets_in_range}
 use Rattle.bl_ct.proofs.ReadRows.{elem}

@@ -1,8 +1,8 @@
 use Rattle.std.proofs.Common.{ℕ, false, ap, get_or, sym, subst, ◌∙◌, not, ◌&&◌, ◌+◌}
 use Rattle.std.proofs.lemmas.Bool.{and_from, and_left, and_right, not_from_false, not_from_true}
 use Rattle.std.proofs.lemmas.Option.{unwrap_or-slice_get}
+use Rattle.bl_base.proofs.PositionSets.{HoldsBelow, below_none, below_no, below_yes}
 use Rattle.bl_flow.specs.Cuts.{at_place, cut_of}
-use Rattle.bl_transient.proofs.PositionSets.{HoldsBelow, below_none, below_no, below_yes}
 use Rattle.bl_cut.proofs.choice.cut_sites.Goals as goal
 use Rattle.bl_cut.proofs.choice.cut_sites.Goals.{then-near_in-s+then-not-near_out-s+in_ok-insert, else-near_in-s, else-near_in-s-via-then-near_in-s+else-not-near_out-s, else-near_in-s-via-else-near_in-s}
 

@@ -4,7 +4,7 @@ use Rattle.std.proofs.lemmas.List.{get_or_read_under, take_all}
 use Rattle.std.proofs.lemmas.Option.{slice_get_within}
 use Rattle.bl_graph.specs.Graphs.{use_of}
 use Rattle.bl_graph.specs.Names.{place_of}
-use Rattle.bl_transient.proofs.AskedLists.{Marks, numbers_within}
+use Rattle.bl_graph.proofs.AskedLists.{Marks, numbers_within}
 use Rattle.bl_cut.specs.Network.{AreReaders}
 use Rattle.bl_cut.proofs.AskedReaders.{next_marked, next_unmarked, readers_none}
 use Rattle.bl_cut.proofs.network.push_readers.Goals as goal

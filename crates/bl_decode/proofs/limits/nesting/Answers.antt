@@ -1,7 +1,7 @@
 use Rattle.std.proofs.Common.{◌≡◌, ◌+◌, Some, max, ap₂, sym, ◌∙◌, subst, arith}
 use Rattle.bl_wasm.specs.OpenConstructs.{depth_at, open_behind}
 use Rattle.bl_wasm.specs.declared.instruction.Instr.{Instr}
-use Rattle.bl_decode.proofs.NestingDepths.{moves_at}
+use Rattle.bl_wasm.proofs.NestingDepths.{moves_at}
 use Rattle.bl_decode.proofs.Excesses.{greatest_depth_more}
 use Rattle.bl_decode.proofs.limits.nesting.Goals as goal
 

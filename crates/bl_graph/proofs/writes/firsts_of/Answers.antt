@@ -1,6 +1,6 @@
 use Rattle.std.proofs.Common.{arith}
 use Rattle.std.proofs.lemmas.Grind.{common_steps}
-use Rattle.bl_graph.proofs.VariableSums.{one_more, fits_more}
+use Rattle.bl_cmd.proofs.VariableSums.{one_more, fits_more}
 use Rattle.bl_graph.proofs.writes.firsts_of.Goals as goal
 
 pub overflow_add-first-in-loop-function : goal.overflow_add-first-in-loop-function

@@ -1,10 +1,10 @@
 use Rattle.std.proofs.Common.{ℕ, subst}
 use Rattle.std.specs.FinSet as fin
 use Rattle.std.specs.Prelude.{MatchOption}
+use Rattle.bl_graph.proofs.AskedLists.{in_asked}
 use Rattle.bl_cut.specs.Least.{LeastUnder}
 use Rattle.bl_transient.specs.Transient.{Asked}
 use Rattle.bl_transient.specs.Verdicts.{asked_of}
-use Rattle.bl_transient.proofs.AskedLists.{in_asked}
 use Rattle.bl_iface.specs.RoleTests.{IsFirstGiven, IsGiven}
 use Rattle.bl_iface.proofs.SideLemmas.{firm_within, hot_within, lists_apart, same_asked}
 use Rattle.bl_iface.proofs.choice.least_under.Goals as goal

@@ -1,7 +1,7 @@
 use Rattle.std.proofs.Common.{◌≡◌, ap, arith}
 use Rattle.bl_cmd.specs.Layout.{entry_of}
+use Rattle.bl_cmd.proofs.Entries.{entry_small}
 use Rattle.bl_seq.specs.declared.layout.Frame.{Frame}
-use Rattle.bl_rob.proofs.Entries.{entry_small}
 use Rattle.bl_rob.proofs.fetch.entry_of.Goals as goal
 
 pub overflow_cast-result : goal.overflow_cast-result

@@ -1,5 +1,5 @@
 use Rattle.bl_trace.specs.Traces.{IsWritten, directive_of, directive_text}
-use Rattle.bl_trace.proofs.LineTexts.{all_read, lines_counted}
+use Rattle.bl_text.proofs.LineTexts.{all_read, lines_counted}
 use Rattle.bl_trace.proofs.WrittenTraces.{no_feeds, reads_back}
 use Rattle.bl_trace.proofs.laws.what_is_written_is_read.Goals as goal
 

@@ -1,6 +1,6 @@
-use Rattle.bl_trace.specs.Lines.{lines_of}
+use Rattle.bl_text.specs.Lines.{lines_of}
 use Rattle.bl_trace.specs.Traces.{directive_of}
-use Rattle.bl_trace.proofs.ItemLemmas.{items_tell}
+use Rattle.bl_text.proofs.ItemLemmas.{items_tell}
 use Rattle.bl_trace.proofs.laws.what_traces_tell.Goals as goal
 
 pub returns : goal.returns

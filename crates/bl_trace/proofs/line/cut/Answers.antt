@@ -1,5 +1,5 @@
 use Rattle.std.proofs.Common.{◌<◌, length, arith}
-use Rattle.bl_trace.proofs.LineSplits.{one_part, first_part}
+use Rattle.bl_text.proofs.LineSplits.{one_part, first_part}
 use Rattle.bl_trace.proofs.line.cut.Goals as goal
 
 pub returns-then-end-text : goal.returns-then-end-text

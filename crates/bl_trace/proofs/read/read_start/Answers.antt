@@ -1,5 +1,5 @@
 use Rattle.std.proofs.Common.{arith, rules}
-use Rattle.bl_trace.specs.Lines.{lines_of}
+use Rattle.bl_text.specs.Lines.{lines_of}
 use Rattle.bl_trace.proofs.StartFits.{fits_whole}
 use Rattle.bl_trace.proofs.read.read_start.Goals as goal
 

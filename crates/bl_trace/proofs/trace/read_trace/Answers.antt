@@ -1,21 +1,21 @@
-use Rattle.std.proofs.Common.{◌≡◌, ◌+◌, ◌-◌, take, drop, None, Some, rules, arith, ◌∙◌}
+use Rattle.std.proofs.Common.{◌≡◌, ℕ, List, length, Some, None, rules, ap, arith, ◌∙◌}
+use Rattle.bl_text.proofs.ItemLemmas.{item_first, none_first, none_left}
 use Rattle.bl_trace.specs.Traces.{directive_of}
-use Rattle.bl_trace.proofs.ItemLemmas.{item_at, no_item_at}
 use Rattle.bl_trace.proofs.trace.read_trace.Goals as goal
 
 pub returns-in_default : goal.returns-in_default
 returns-in_default c =
-    let is : None ≡ directive_of (take (c.loop-at.at + c.place_of.result - c.loop-at.at) (drop c.loop-at.at c.args.bytes.now)) = search rules in
-    c.loop-at.invariant.rest
-    ∙ no_item_at directive_of c.args.bytes.now c.loop-at.number c.loop-at.directives c.loop-at.at c.place_of.result c.loop-at-test.true c.place_of.ensures.place is
+    let is : None ≡ directive_of c.in-Some.line.now = search rules in
+    c.loop-line.invariant.rest ∙ none_first directive_of c.loop-line.number c.loop-line.directives _ c.in-Some.line.now _ c.in-Some.ensures.steps is
 
-pub loop-at-preserved : goal.loop-at-preserved
-loop-at-preserved c =
-    let is : Some c.in-Some.directive ≡ directive_of (take (c.loop-at.at + c.place_of.result - c.loop-at.at) (drop c.loop-at.at c.args.bytes.now)) = search rules in
+pub loop-line-preserved : goal.loop-line-preserved
+loop-line-preserved c =
+    let is : Some c.in-Some-read_directive.directive ≡ directive_of c.in-Some.line.now = search rules in
     record {
-      within = search rules;
-      numbers = omega arith;
-      rest = c.loop-at.invariant.rest
-          ∙ item_at directive_of c.args.bytes.now c.loop-at.number c.loop-at.directives c.loop-at.at c.place_of.result c.loop-at-test.true c.place_of.ensures.place
-          c.in-Some.directive c.push.new.self is c.in_ok-push.ensures.ok;
+      numbers = omega (arith, ap (length {A = List ℕ}) c.in-Some.ensures.steps);
+      rest = c.loop-line.invariant.rest
+          ∙ item_first directive_of c.loop-line.number c.loop-line.directives _ c.in-Some.line.now _ c.in-Some.ensures.steps c.in-Some-read_directive.directive c.push.new.self is c.in_ok-push.ensures.ok;
     }
+
+pub returns : goal.returns
+returns c = c.loop-line.invariant.rest ∙ none_left directive_of c.loop-line.number c.loop-line.directives _ c.in-None.ensures.steps.0

@@ -1,7 +1,7 @@
 use Rattle.std.proofs.Common.{◌<◌, ◌∙◌, length, arith, subst}
 use Rattle.std.specs.List.{slice_index_or}
 use Rattle.std.proofs.lemmas.List.{length-set, take_all}
-use Rattle.bl_transient.proofs.AskedLists.{Marks, marks_more}
+use Rattle.bl_graph.proofs.AskedLists.{Marks, marks_more}
 use Rattle.bl_transient.proofs.asked.marked.Goals as goal
 
 pub loop-number-preserved : goal.loop-number-preserved

@@ -1,5 +1,5 @@
 use Rattle.std.proofs.Common.{◌≡◌, length, take}
-use Rattle.bl_transient.proofs.AskedLists.{Marks}
+use Rattle.bl_graph.proofs.AskedLists.{Marks}
 use Rattle.bl_transient.proofs.asked.marked.Given as goal
 
 abbrev pub invariant-loop-number : goal.invariant-loop-number

@@ -6,8 +6,8 @@ use Rattle.std.proofs.lemmas.List.{append_assoc}
 use Rattle.bl_graph.specs.Arcs.{is_in}
 use Rattle.bl_graph.specs.Names.{place_of}
 use Rattle.bl_graph.proofs.NameLemmas.{few_names, reads_named, sinks_named}
+use Rattle.bl_graph.proofs.AskedLists.{numbered_asked, numbers_within}
 use Rattle.bl_transient.specs.Verdicts.{asked_of}
-use Rattle.bl_transient.proofs.AskedLists.{numbered_asked, numbers_within}
 use Rattle.bl_transient.proofs.BarredUses.{are_bars}
 use Rattle.bl_transient.proofs.bad.barred_uses.Goals as goal
 use Rattle.bl_transient.proofs.bad.barred_uses.Goals.{After-deref}

@@ -2,8 +2,8 @@ use Rattle.std.proofs.Common.{◌<◌, length}
 use Rattle.std.specs.FinSet as fin
 use Rattle.std.proofs.lemmas.Option.{slice_get_within}
 use Rattle.bl_graph.proofs.ChainLemmas.{all_from}
+use Rattle.bl_graph.proofs.AskedLists.{asked_in}
 use Rattle.bl_transient.specs.Verdicts.{asked_of}
-use Rattle.bl_transient.proofs.AskedLists.{asked_in}
 use Rattle.bl_transient.proofs.BarredUses.{first_bad, none_passes}
 use Rattle.bl_transient.proofs.bad.first_bad_of.Goals as goal
 

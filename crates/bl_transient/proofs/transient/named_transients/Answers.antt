@@ -3,8 +3,8 @@ use Rattle.std.specs.FinSet as fin
 use Rattle.std.specs.List.{All, Contains}
 use Rattle.bl_graph.specs.Names.{numbered, place_of}
 use Rattle.bl_graph.proofs.NameLemmas.{few_names, reads_named}
+use Rattle.bl_graph.proofs.AskedLists.{asked_back, asked_there, numbers_within}
 use Rattle.bl_transient.specs.Verdicts.{asked_of}
-use Rattle.bl_transient.proofs.AskedLists.{asked_back, asked_there, numbers_within}
 use Rattle.bl_transient.proofs.NamedSearch.{marks_are, reads_within, written_within}
 use Rattle.bl_transient.proofs.transient.named_transients.Goals as goal
 use Rattle.bl_transient.proofs.transient.named_transients.Goals.{After-deref-3}

@@ -5,7 +5,7 @@ use Rattle.bl_wasm.specs.Sections.{import_kind}
 use Rattle.bl_wasm.specs.declared.module.ImportKind.TheVariants.{Function, Table, Memory, Global}
 use Rattle.bl_code.specs.declared.error.CodeError.TheVariants.{Malformed}
 use Rattle.bl_code.proofs.Places.{passes, err_byte}
-use Rattle.bl_decode.proofs.ImportForms.{kind_never_empty, none_function, none_table, none_memory, none_global, err_kind, at_kind, none_kind}
+use Rattle.bl_code.proofs.ImportForms.{kind_never_empty, none_function, none_table, none_memory, none_global, err_kind, at_kind, none_kind}
 use Rattle.bl_decode.proofs.entries.ImportKindsFormat.read.Goals as goal
 
 pub returns-in_err-code : goal.returns-in_err-code

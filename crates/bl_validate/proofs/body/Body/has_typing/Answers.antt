@@ -1,9 +1,9 @@
 use Rattle.std.proofs.Common.{◌≡◌, ◌+◌, [], ◌∷◌, drop}
 use Rattle.std.proofs.lemmas.List.{drop_all}
 use Rattle.bl_base.proofs.Lists.{rest_at}
+use Rattle.bl_wasm.proofs.BodyTypings.{goes_on, goes_not, goes_done, goes_typing, goes_same, chained, turned}
 use Rattle.bl_validate.specs.Represents.{Represents}
 use Rattle.bl_validate.specs.Scopes.{seen}
-use Rattle.bl_validate.proofs.BodyTypings.{goes_on, goes_not, goes_done, goes_typing, goes_same, chained, turned}
 use Rattle.bl_validate.proofs.body.Body.has_typing.Goals as goal
 
 pub loop-item-init : goal.loop-item-init

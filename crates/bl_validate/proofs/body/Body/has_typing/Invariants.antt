@@ -1,7 +1,7 @@
 use Rattle.std.proofs.Common.{◌≡◌, ◌↔◌, [], drop}
+use Rattle.bl_wasm.proofs.BodyTypings.{Goes}
 use Rattle.bl_validate.specs.Represents.{Represents}
 use Rattle.bl_validate.specs.Scopes.{seen}
-use Rattle.bl_validate.proofs.BodyTypings.{Goes}
 use Rattle.bl_validate.proofs.body.Body.has_typing.Given as goal
 
 abbrev pub invariant-loop-item : goal.invariant-loop-item

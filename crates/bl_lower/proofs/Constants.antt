@@ -22,8 +22,8 @@ use Rattle.bl_cmd.specs.declared.command.Command.{Command}
 use Rattle.bl_cmd.specs.declared.command.Command.TheVariants as command
 use Rattle.bl_cmd.specs.declared.command.Operand.{Operand}
 use Rattle.bl_cmd.specs.declared.command.Operand.TheVariants.{Const}
+use Rattle.bl_cmd.specs.Widths.{HasConstants, HasWidth}
 use Rattle.bl_access.specs.Templates.{chain_from, jump_to, shift, test_of}
-use Rattle.bl_image.specs.Widths.{HasConstants, HasWidth}
 use Rattle.bl_emit.specs.Shapes.{Counts, Shape, Slot, armed, bottom, result_reads, mistyped, uninitialized}
 use Rattle.bl_emit.specs.Constructs.{Point, Target, again, args, as_whole, behind, branched, first_to, inside, mark_of, moves, outs, pad, part, point, reads, start_of, taken, top, whole}
 use Rattle.bl_emit.specs.Items.{Check, after, arms, calls_in, check_of, checks, free, hits_from, leaving, left, nonzero, quotient, results_in, right, slot_arm, slot_arms, slot_head, template, to_label}

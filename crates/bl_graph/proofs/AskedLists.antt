@@ -6,10 +6,10 @@ use Rattle.std.proofs.lemmas.Bool.{cases_eq, eq-eqb, eqb-true}
 use Rattle.std.proofs.lemmas.List.{get_or-set_same, get_or-set_other, take_more}
 use Rattle.std.proofs.lemmas.List.Elements.{All-contains, Contains-append_left, Contains-push, Contains-push_cases}
 use Rattle.std.proofs.lemmas.Option.{same_Some}
+use Rattle.bl_base.proofs.Members.{from_map, in_map, listed, lists}
 use Rattle.bl_graph.specs.Arcs.{is_in}
 use Rattle.bl_graph.specs.Names.{place_of}
 use Rattle.bl_graph.proofs.ChainLemmas.{all_from}
-use Rattle.bl_graph.proofs.Members.{from_map, in_map, listed, lists}
 use Rattle.bl_graph.proofs.NameLemmas.{Rise, at_place, place_back, place_within}
 
 -- ---- lists as tests

@@ -21,10 +21,10 @@ use Rattle.bl_cmd.specs.declared.definitions.MemRow.{MemRow}
 use Rattle.bl_cmd.specs.declared.definitions.MemoryDef.{MemoryDef}
 use Rattle.bl_cmd.specs.declared.definitions.ProgramParts.{ProgramParts as Program}
 use Rattle.bl_cmd.specs.declared.definitions.SiteWeight.{SiteWeight}
+use Rattle.bl_cmd.specs.Widths.{HasConstants, HasWidth, HasWidths}
+use Rattle.bl_cmd.proofs.AppendLemmas.{get_drop}
 use Rattle.bl_image.specs.Grammar.{each, each_after, gap, u64}
 use Rattle.bl_image.specs.Image.{Image, additions, command, export, memory, operand, row, weight, weights}
-use Rattle.bl_image.specs.Widths.{HasConstants, HasWidth, HasWidths}
-use Rattle.bl_iface.proofs.AppendLemmas.{get_drop}
 
 -- ---- lists
 

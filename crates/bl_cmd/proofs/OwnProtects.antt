@@ -6,10 +6,10 @@ use Rattle.std.specs.FinSet as fin
 use Rattle.std.specs.FinSet.{FinSet}
 use Rattle.std.specs.Ordering.{nat_cmp}
 use Rattle.std.specs.Prelude.{◌&&◌, nat_lt, option_map, option_and_then, unwrap_or}
+use Rattle.bl_base.proofs.PositionSets.{HoldsBelow}
 use Rattle.bl_cmd.specs.Sites.{is_protected, mark_of}
 use Rattle.bl_cmd.specs.declared.command.Mark.{Mark}
 use Rattle.bl_cmd.specs.declared.definitions.ProgramParts.{ProgramParts as Program}
-use Rattle.bl_transient.proofs.PositionSets.{HoldsBelow}
 
 -- behind the last command none stands
 past : (program : Program) (s : ℕ) → length program.commands ≤ s → is_protected program s ≡ false

@@ -1,15 +1,6 @@
 -- What lines say, one by one.
-use Rattle.std.proofs.Common.{◌≡◌, ◌↔◌, ℕ, ◌+◌, ◌-◌, ◌<◌, suc, List, [], ◌∷◌, ◌++◌, length, map, take, drop, Option, Some, None, Result, Ok, Err, refl, sym, ap, subst, ◌∙◌, arith, append_assoc}
-use Rattle.std.specs.Prelude.{◌==◌}
-use Rattle.std.specs.List.{position_or_len}
-use Rattle.bl_trace.specs.Items.{item_before, items_of, TellItems, all_say, bad_line}
-use Rattle.bl_trace.specs.Lines.{lines_of}
-use Rattle.bl_trace.proofs.LineLemmas.{line_at}
-
--- one line more is counted
-pub one_line : (bytes : List ℕ) (at place : ℕ) → at < length bytes → place ≡ position_or_len (λ b. b == 10) (take (length bytes - at) (drop at bytes))
-    → length (lines_of (drop at bytes)) ≡ suc (length (lines_of (drop (at + place + 1) bytes)))
-one_line bytes at place inside ends = ap length (line_at bytes at place inside ends)
+use Rattle.std.proofs.Common.{◌≡◌, ◌↔◌, ℕ, ◌+◌, List, [], ◌∷◌, ◌++◌, length, map, Option, Some, None, Result, Ok, Err, refl, sym, ap, subst, ◌∙◌, arith, append_assoc, append-nil}
+use Rattle.bl_text.specs.Items.{item_before, items_of, TellItems, all_say, bad_line}
 
 -- for whatever a line may say
 module _ {A : Type 0} (says : List ℕ → Option A) where
@@ -28,28 +19,26 @@ module _ {A : Type 0} (says : List ℕ → Option A) where
   moves number items item (Ok more) = ap Ok (sym (append_assoc items (item ∷ []) more))
   moves number items item (Err n) = ap Err (omega arith)
 
-  module _ (bytes : List ℕ) (number : ℕ) (items : List A) (at place : ℕ) (inside : at < length bytes)
-      (ends : place ≡ position_or_len (λ b. b == 10) (take (length bytes - at) (drop at bytes))) where
-    abbrev here : List ℕ
-    here = take (at + place - at) (drop at bytes)
-
-    abbrev behind : List (List ℕ)
-    behind = lines_of (drop (at + place + 1) bytes)
-
-    -- the line from a place on says something
-    pub item_at : (item : A) (next : List A) → Some item ≡ says here → next ≡ items ++ item ∷ []
-        → so_far number items (items_of says (lines_of (drop at bytes))) ≡ so_far (number + 1) next (items_of says behind)
-    item_at item next is added =
-        ap (λ lines. so_far number items (items_of says lines)) (line_at bytes at place inside ends)
-        ∙ ap (λ found. so_far number items (by_line behind found)) (sym is)
-        ∙ moves number items item (items_of says behind)
-        ∙ ap (λ (xs : List A). so_far (number + 1) xs (items_of says behind)) (sym added)
+  -- the first of the lines that are left, and those behind it
+  module _ (number : ℕ) (items : List A) (left : List (List ℕ)) (line : List ℕ) (lines : List (List ℕ)) (first : left ≡ line ∷ lines) where
+    -- it says something
+    pub item_first : (item : A) (next : List A) → Some item ≡ says line → next ≡ items ++ item ∷ []
+        → so_far number items (items_of says left) ≡ so_far (number + 1) next (items_of says lines)
+    item_first item next is added =
+        ap (λ all. so_far number items (items_of says all)) first
+        ∙ ap (λ found. so_far number items (by_line lines found)) (sym is)
+        ∙ moves number items item (items_of says lines)
+        ∙ ap (λ (xs : List A). so_far (number + 1) xs (items_of says lines)) (sym added)
 
     -- it says nothing
-    pub no_item_at : None ≡ says here → so_far number items (items_of says (lines_of (drop at bytes))) ≡ Err (number + 1)
-    no_item_at is =
-        ap (λ lines. so_far number items (items_of says lines)) (line_at bytes at place inside ends)
-        ∙ ap (λ found. so_far number items (by_line behind found)) (sym is)
+    pub none_first : None ≡ says line → so_far number items (items_of says left) ≡ Err (number + 1)
+    none_first is =
+        ap (λ all. so_far number items (items_of says all)) first
+        ∙ ap (λ found. so_far number items (by_line lines found)) (sym is)
+
+  -- no line is left
+  pub none_left : (number : ℕ) (items : List A) (left : List (List ℕ)) → left ≡ [] → so_far number items (items_of says left) ≡ Ok items
+  none_left number items left none = ap (λ all. so_far number items (items_of says all)) none ∙ ap Ok (append-nil items)
 
   -- ---- what lines tell
 

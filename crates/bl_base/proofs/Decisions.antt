@@ -4,7 +4,7 @@ use Rattle.std.specs.Prelude.{IsSomeAnd}
 use Rattle.std.specs.List.{Contains}
 use Rattle.std.proofs.lemmas.Bool.{false≢true, true≢false}
 use Rattle.bl_base.proofs.Sums.{last_or_before}
-use Rattle.bl_graph.proofs.Members.{first_in, later_in, in_cases, none_in}
+use Rattle.bl_base.proofs.Members.{first_in, later_in, in_cases, none_in}
 
 abbrev pub Decided : Type 0 → Type 0
 Decided P = P ⊎ (P → ⊥)

@@ -1,6 +1,6 @@
 use Rattle.std.proofs.Common.{◌≡◌, ◌≤◌, length, ◌-◌, ◌+◌, ◌==◌, drop}
 use Rattle.std.specs.List.{position_or_len}
-use Rattle.bl_trace.proofs.line.place_of.Given as goal
+use Rattle.bl_text.proofs.lines.place_of.Given as goal
 
 -- the first such byte is as far into the rest
 abbrev pub invariant-loop-place : goal.invariant-loop-place

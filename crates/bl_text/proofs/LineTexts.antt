@@ -5,8 +5,8 @@ use Rattle.std.proofs.lemmas.Bool.{and_parts, cond-false, not-true}
 use Rattle.std.proofs.lemmas.List.Elements.{All-head, All-tail}
 use Rattle.std.proofs.lemmas.List.Folds.{list_all-append}
 use Rattle.bl_text.proofs.DecimalTexts.{both_true, is_inner}
-use Rattle.bl_trace.specs.Items.{item_before, items_of}
-use Rattle.bl_trace.specs.Lines.{lines_of}
+use Rattle.bl_text.specs.Items.{item_before, items_of}
+use Rattle.bl_text.specs.Lines.{lines_of}
 
 -- a text before a line feed is a line
 abbrev pub HasNoFeed : List ℕ → Type 0

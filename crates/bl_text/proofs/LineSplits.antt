@@ -1,9 +1,9 @@
 -- Lines and words by the places at which they end.
 use Rattle.std.proofs.Common.{◌≡◌, ℕ, ◌+◌, ◌<◌, ◌≤◌, Bool, true, false, cond, not, List, [], ◌∷◌, length, take, drop, ◌-◌, suc, refl, sym, ap, subst, ◌∙◌, arith, ◌==◌}
-use Rattle.std.proofs.lemmas.List.{take_rest}
+use Rattle.std.proofs.lemmas.List.{take_all, take_rest, drop_all}
 use Rattle.std.proofs.lemmas.List.Splits.{slice_split_first}
 use Rattle.std.specs.List.{slice_split, onto_first, position_or_len, before_first, after_first}
-use Rattle.bl_trace.specs.Lines.{lines_of}
+use Rattle.bl_text.specs.Lines.{lines_of}
 
 -- where no element passes there is one part
 pub one_part : {X : Type 0} (p : X → Bool) (xs : List X) → length xs ≤ position_or_len p xs → slice_split p xs ≡ xs ∷ []
@@ -47,4 +47,37 @@ first_line byte (next ∷ bytes) =
     ∷ lines_of (drop (cond (not b) (1 + position_or_len (λ b. b == 10) (next ∷ bytes)) 0 + 1) (byte ∷ next ∷ bytes))) [
       | true ↦ refl
       | false ↦ longer_line byte _ (next ∷ bytes) (first_line next bytes)
+    ]
+
+-- the first line of bytes that aren't empty, up to the first LF, and the lines behind it
+line_of_some : (bytes : List ℕ) (end : ℕ) → 0 < length bytes → end ≡ position_or_len (λ b. b == 10) bytes →
+    lines_of bytes ≡ take end bytes ∷ lines_of (drop (end + 1) bytes)
+line_of_some [] end some ends = absurd (omega (arith, some))
+line_of_some (byte ∷ bytes) end some ends = first_line byte bytes ∙ ap (λ (n : ℕ). take n (byte ∷ bytes) ∷ lines_of (drop (n + 1) (byte ∷ bytes))) (sym ends)
+
+-- there is no LF
+pub line_alone : (bytes : List ℕ) (end : ℕ) → 0 < length bytes → end ≡ position_or_len (λ b. b == 10) bytes → end ≡ length bytes → lines_of bytes ≡ bytes ∷ lines_of []
+line_alone bytes end some ends whole =
+    line_of_some bytes end some ends
+    ∙ ap (λ line. line ∷ lines_of (drop (end + 1) bytes)) (take_all end bytes (omega (arith, whole)))
+    ∙ ap (λ rest. bytes ∷ lines_of rest) (drop_all (end + 1) bytes (omega (arith, whole)))
+
+-- there is one, and what stands behind it is a slice
+pub line_split : (bytes : List ℕ) (end : ℕ) → 0 < length bytes → end ≡ position_or_len (λ b. b == 10) bytes →
+    lines_of bytes ≡ take end bytes ∷ lines_of (take (length bytes - (end + 1)) (drop (end + 1) bytes))
+line_split bytes end some ends = line_of_some bytes end some ends ∙ ap (λ rest. take end bytes ∷ lines_of rest) (sym (take_rest bytes (end + 1)))
+
+-- a byte onto the first of some lines
+longer_by_one : (byte : ℕ) (lines : List (List ℕ)) → length (onto_first byte lines) ≤ suc (length lines)
+longer_by_one byte [] = omega arith
+longer_by_one byte (line ∷ lines) = omega arith
+
+-- no text has more lines than bytes
+pub few_lines : (bytes : List ℕ) → length (lines_of bytes) ≤ length bytes
+few_lines [] = omega arith
+few_lines (byte ∷ bytes) =
+    let rest = few_lines bytes in
+    elim (byte == 10) as (λ b. length (cond b ([] ∷ lines_of bytes) (onto_first byte (lines_of bytes))) ≤ suc (length bytes)) [
+      | true ↦ omega (arith, rest)
+      | false ↦ omega (arith, rest, longer_by_one byte (lines_of bytes))
     ]
