@@ -3,7 +3,7 @@ use Rattle.std.specs.Prelude.{◌≡◌, ℕ, Option, Some}
 use Rattle.bl_job.specs.CallEffects.{Leaves}
 use Rattle.bl_job.specs.Causes.{Causes}
 use Rattle.bl_job.specs.Ends.{Ends}
-use Rattle.bl_job.specs.StagedJobs.{Did}
+use Rattle.bl_job.specs.StagedJobs.{DeedMeans}
 use Rattle.bl_job.specs.Status.{IsStatus, kind_of, of_deed}
 use Rattle.bl_job.specs.Worlds.{World}
 use Rattle.bl_words.specs.Requests.{HardenRequest, Request, harden}
@@ -25,4 +25,4 @@ pub record Promises (asked : Option Request) (old new : World) (code : ℕ) : Ty
   pub hardens : (request : HardenRequest) → asked ≡ Some (harden request) → code ≡ 0 → Hardens request old new
   -- what the status of a deed says: what the command of the request says where it is done
   pub says : (request : Request) → asked ≡ Some request
-      → IsStatus code (λ status. kind_of status ≡ of_deed → Did (row_of request).staged old new status)
+      → IsStatus code (λ status. kind_of status ≡ of_deed → DeedMeans (row_of request).staged old new status)
