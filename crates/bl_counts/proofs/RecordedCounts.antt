@@ -138,9 +138,6 @@ module _ (program : Program) where
   last_of : {X : Type 0} (P : X → Type 0) (xs : List X) (y : X) → All P (xs ++ y ∷ []) → P y
   last_of P xs y all = subst P (get_or_push xs y y (length xs) refl) (all (length xs) y (let count = length_push xs y in omega arith))
 
-  front_all : {X : Type 0} (P : X → Type 0) (xs : List X) (y : X) → All P (xs ++ y ∷ []) → All P xs
-  front_all P xs y all k d lt = subst P (get_or_append_left xs (y ∷ []) d k lt) (all k d (let count = length_push xs y in omega arith))
-
   follows_on : (done : List SiteCount) (before : Option Pos) (one : SiteCount) → Follows done before → is_above before one.at.0 ≡ true → Follows (done ++ one ∷ []) (Some one.at)
   follows_on done before one f above = record {
     to = λ s h. let lt = ltb-true one.at.0 s h in All-push (λ (e : SiteCount). e.at.0 < s) done one (λ k d within. let low = f.to one.at.0 above k d within in omega arith) lt;
@@ -226,11 +223,6 @@ not_here p positions s other = once p positions s ∙ rw (ne_eqb p s other) (ome
 
 is_here : (p : ℕ) (positions : List ℕ) → times (p ∷ positions) p ≡ suc (times positions p)
 is_here p positions = once p positions p ∙ rw (eq-eqb p p refl) (omega arith)
-
-total_with : (s n : ℕ) (o : Option Mark) (rest : List SiteCount) → total (with_count s n o rest) ≤ n + total rest
-total_with s zero o rest = omega arith
-total_with s (suc n) None rest = omega arith
-total_with s (suc n) (Some mark) rest = let sum = sum_by-cons (λ (one : SiteCount). one.count) (record { at = record { 0 = s }; count = suc n }) rest in omega arith
 
 grows : (s n : ℕ) (o : Option Mark) (rest other : List SiteCount) → total rest ≤ suc (total other) → total (with_count s n o rest) ≤ suc (total (with_count s n o other))
 grows s zero o rest other le = le

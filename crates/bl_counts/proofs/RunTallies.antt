@@ -87,13 +87,6 @@ module _ (program : Program) where
         let first = first_stuck (steps - (n + 1)) now at e in
         omega arith
 
-    pub tallied_all : (n : ℕ) (now : Plain) (counted : List ℕ) → n ≡ steps → Tallied n now counted → AreTimes program from steps counted
-    tallied_all n now counted e t at within =
-        let so_far = t.0 at within in
-        let left : steps - n ≡ 0 = omega arith in
-        let same = ap (λ k. times_from program now k at) left in
-        omega arith
-
 -- ---- the sites' counts
 
 -- the counts so far and those of the commands that are left are all
