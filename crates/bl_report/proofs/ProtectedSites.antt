@@ -42,11 +42,6 @@ module _ (test : ℕ → Bool) (sites : List ℕ) (i n : ℕ) where
   kept_next lt true e = chosen_next lt e
   kept_next lt false e = ap (λ l. l ++ filter test (range_with_len (i + 1) (n - (i + 1)))) (append-nil sites) ∙ other_next lt e
 
-  pub chosen_all : (all : List ℕ) → n ≤ i → sites ++ filter test (range_with_len i (n - i)) ≡ all → sites ≡ all
-  chosen_all all le e =
-      let none : n - i ≡ 0 = omega arith in
-      sym (append-nil sites) ∙ ap (λ k. sites ++ filter test (range_with_len i k)) (sym none) ∙ e
-
 -- one command more: a site is counted by its mark
 pub counted_next : (program : Program) (i : ℕ) → i < length program.commands
     → count_by is_site (take (i + 1) program.commands) ≡ count_by is_site (take i program.commands) + cond (is_some (mark_at program i)) 1 0
@@ -66,16 +61,6 @@ counted_next program i lt =
 pub few_next : (count new i : ℕ) (b : Bool) → new ≡ count + cond b 1 0 → count ≤ i → new ≤ i + 1
 few_next count new i true is few = omega arith
 few_next count new i false is few = omega arith
-
--- a site stands below the number of commands
-pub site_below : (program : Program) (s : ℕ) → IsSite program s → s < length program.commands
-site_below program s h =
-    elim (cases_lt s (length program.commands)) as (λ _. s < length program.commands) [
-      | inl lt ↦ lt
-      | inr past ↦
-          absurd (false≢true
-          (sym (ap (λ o. is_some (option_map (λ (mark : Mark). unwrap_or (listed program.weights s) (10 ^ mark.depth)) (option_and_then mark_of o))) (slice_get_past program.commands s past)) ∙ h))
-    ]
 
 -- what is protected is a site
 module _ (program : Program) where
