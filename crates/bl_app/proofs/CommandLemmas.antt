@@ -27,7 +27,7 @@ use Rattle.bl_app.proofs.PartLemmas.{part_staged_is}
 use Rattle.bl_app.proofs.PredictLemmas.{one_predict_plan, predict_staged_is}
 use Rattle.bl_app.proofs.RunLemmas.{one_run_plan, run_staged_is}
 use Rattle.bl_app.proofs.SpecLemmas.{spec_staged_is}
-use Rattle.bl_job.proofs.StagedJobLemmas.{IsStagedCommand, did, one_done, staged_lawful, staged_total}
+use Rattle.bl_job.proofs.StagedJobLemmas.{IsStagedCommand, deed_means, one_done, staged_lawful, staged_total}
 use Rattle.bl_app.specs.RunJob.{run_staged}
 use Rattle.bl_app.specs.ForwardJob.{forward_staged}
 use Rattle.bl_app.specs.GenJob.{gen_staged}
@@ -38,7 +38,7 @@ use Rattle.bl_app.specs.LowerJob.{lower_staged}
 use Rattle.bl_app.specs.PartJob.{part_staged}
 use Rattle.bl_app.specs.PredictJob.{predict_staged}
 use Rattle.bl_app.specs.SpecJob.{spec_staged}
-use Rattle.bl_job.specs.StagedJobs.{Did, Staged, WasDone}
+use Rattle.bl_job.specs.StagedJobs.{DeedMeans, Staged, WasDone}
 use Rattle.bl_app.specs.TwinJob.{twin_staged}
 use Rattle.bl_app.specs.VerifyJob.{verify_staged}
 use Rattle.bl_app.proofs.TwinLemmas.{one_twin_plan, twin_staged_is}
@@ -50,7 +50,7 @@ record IsCommand (request : Request) (row : Row) : Type 0 where
   small : AllByRecursion IsSmall row.job.reads
   lawful : IsLawful row.job
   total : length (modules_in request) ≤ limit_of quantity.Modules → row.Given → IsTotal row.job
-  says : (old new : World) (status : Status) → WasDone row.job old new status → Did row.staged old new status
+  says : (old new : World) (status : Status) → WasDone row.job old new status → DeedMeans row.staged old new status
   one : HasOnePlan request → (contents : List (List ℕ)) (p q : Plan) → row.job.Does contents p → row.job.Does contents q → p ≡ q
 
 staged : {request : Request} {B Given These : Type 0} (staged : Staged B) → IsStagedCommand These staged → (length (modules_in request) ≤ limit_of quantity.Modules → Given → These)
@@ -59,7 +59,7 @@ staged row laws these one = record {
   small = laws.small;
   lawful = staged_lawful row laws;
   total = λ few given. staged_total row laws (these few given);
-  says = did row laws;
+  says = deed_means row laws;
   one = λ has. one_done row laws (one has);
 }
 
@@ -90,7 +90,7 @@ total_of request given = with_modules_total (modules_in request) (work_of reques
 
 -- what is said where a job was done
 pub said_of : (asked : Option Request) (request : Request) (old new : World) (status : Status) → asked ≡ Some request → IsDone job_of asked old new status
-    → Did (row_of request).staged old new status
+    → DeedMeans (row_of request).staged old new status
 said_of asked request old new status is d =
     let same : d.request ≡ request = let theirs = d.is_request in cc in
     let work = work_done (modules_in request) (work_of request) old.files d.contents d.plan

@@ -21,7 +21,7 @@ use Rattle.bl_app.specs.LowerJob.{LowerPlans, lower_staged}
 use Rattle.bl_build.specs.ProgramMeaning.{SameOutcomes}
 use Rattle.bl_text.specs.Names.{AreNamedApart, module_name}
 use Rattle.bl_words.specs.Requests.{HardenRequest, LowerRequest, file_named, harden, request_of}
-use Rattle.bl_job.specs.StagedJobs.{Did, Stand}
+use Rattle.bl_job.specs.StagedJobs.{DeedMeans, Stand}
 use Rattle.bl_job.specs.Status.{kind_of}
 use Rattle.bl_job.specs.Worlds.{World, took, with_files}
 use Rattle.bl_job.specs.declared.status.Status.{Status}
@@ -200,13 +200,13 @@ lower_staged_is request =
 -- ---- what is said of `harden`
 
 pub hardens : (words : List (List ℕ)) (request : HardenRequest) (old new : World) (status : Status)
-    → request_of words ≡ Some (harden request) → Did (harden_staged request) old new status → Hardens request old new
-hardens words request old new status is did =
-    let d = did.done in
+    → request_of words ≡ Some (harden request) → DeedMeans (harden_staged request) old new status → Hardens request old new
+hardens words request old new status is deed =
+    let d = deed.done in
     let plans : HardenPlans request d.does.made d.plan = d.does.plans in
-    let means : HardenMeans request d.contents d.does.made d.plan = did.means in
+    let means : HardenMeans request d.contents d.does.made d.plan = deed.means in
     let each = means.each plans.hardened plans.is_hardened in
-    let stand = subst (λ plan. Stand new.files plan.keeps) plans.is_plan did.stand in
+    let stand = subst (λ plan. Stand new.files plan.keeps) plans.is_plan deed.stand in
     record {
       contents = d.contents;
       built = d.does.made;

@@ -13,6 +13,7 @@ pub mod LowerJob
 pub mod Outcomes
 pub mod PartJob
 pub mod PredictJob
+pub mod Promises
 pub mod SpecJob
 pub mod Texts
 pub mod TwinJob

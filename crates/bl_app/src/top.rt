@@ -1,17 +1,12 @@
 //! The top call.
-ghost use Rattle.std.specs.Prelude.{◌≡◌, ◌≤◌, Some, length, map, string_bytes};
+ghost use Rattle.std.specs.Prelude.{◌≤◌, Some, length, map, string_bytes};
 ghost use Rattle.bl_base.specs.Quantity.{limit_of};
 ghost use Rattle.bl_base.specs.declared.quantity.Quantity.TheVariants as quantity;
-ghost use Rattle.bl_job.specs.Causes.{Causes};
-ghost use Rattle.bl_app.specs.Commands.{IsSized, job_of, row_of};
+ghost use Rattle.bl_app.specs.Commands.{IsSized, job_of};
+ghost use Rattle.bl_app.specs.Promises.{Promises};
 ghost use Rattle.bl_job.specs.Ends.{Ends};
-ghost use Rattle.bl_job.specs.CallEffects.{Leaves};
-ghost use Rattle.bl_app.specs.HardenJob.{Hardens};
-ghost use Rattle.bl_app.specs.HardenEffects.{HardenLeaves};
 ghost use Rattle.bl_text.specs.Names.{AreNamedApart};
-ghost use Rattle.bl_words.specs.Requests.{HardenRequest, Request as Asked, harden, modules_in, request_of};
-ghost use Rattle.bl_job.specs.StagedJobs.{Did};
-ghost use Rattle.bl_job.specs.Status.{IsStatus, kind_of, of_deed};
+ghost use Rattle.bl_words.specs.Requests.{modules_in, request_of};
 ghost use Rattle.bl_words.specs.Words.{request_in};
 ghost use Rattle.bl_job.specs.Worlds.{world};
 
@@ -29,31 +24,11 @@ use std::alloc::Global;
 /// memory ran out; 12 the bytes are no image or the image isn't well-formed; 13 the bytes are no certificate; 14 a line of the trace file
 /// is no directive; 15 the export is absent, a line of the start file is bad, or there are too few arguments; 16 the run trapped; 17 its
 /// steps were spent; 18 a directive isn't enabled; 19 a count file has a bad line or doesn't fit the program; 20 an interface file has a bad line
-/// or doesn't fit a program, or two programs don't fit each other by it. All text goes to the sink.
+/// or doesn't fit a program, or two programs don't fit each other by it. All text goes to the sink. What it promises of each call is the record
+/// `Promises`, by the words, by what the shelf and the sink were before and are behind it, and by the status.
 pub fn blade<F: Shelf, O: Sink>(alloc: Global, words: &[String], files: &mut F, out: &mut O) -> u8
-    // How the call ends, whatever fails.
-    ensures ends { IsStatus result (Ends job_of (request_of (map string_bytes words.now))
-        (world F.files F.faults O.taken O.faults files.old out.old) (world F.files F.faults O.taken O.faults files.new out.new)) }
-
-    // What each status says, and when it comes.
-    ensures causes { IsStatus result (Causes job_of (request_of (map string_bytes words.now))
-        (world F.files F.faults O.taken O.faults files.old out.old) (world F.files F.faults O.taken O.faults files.new out.new)) }
-
-    // What stands after the call, whatever its status is.
-    ensures leaves { Leaves job_of (request_of (map string_bytes words.now))
-        (world F.files F.faults O.taken O.faults files.old out.old) (world F.files F.faults O.taken O.faults files.new out.new) }
-
-    // The same of `harden`: the first of its certificate and its image, each whole, and a prefix of one text.
-    ensures harden_leaves { (request : HardenRequest) → request_of (map string_bytes words.now) ≡ Some (harden request) → HardenLeaves request
-        (world F.files F.faults O.taken O.faults files.old out.old) (world F.files F.faults O.taken O.faults files.new out.new) }
-
-    // What status 0 says of `harden`: the image means what the modules mean.
-    ensures hardens { (request : HardenRequest) → request_of (map string_bytes words.now) ≡ Some (harden request) → result ≡ 0 → Hardens request
-        (world F.files F.faults O.taken O.faults files.old out.old) (world F.files F.faults O.taken O.faults files.new out.new) }
-
-    // What the status of a deed says: what the command of the request says where it is done.
-    ensures says { (request : Asked) → request_of (map string_bytes words.now) ≡ Some request → IsStatus result (λ status. kind_of status ≡ of_deed → Did (row_of request).staged
-        (world F.files F.faults O.taken O.faults files.old out.old) (world F.files F.faults O.taken O.faults files.new out.new) status) }
+    ensures { Promises (request_of (map string_bytes words.now))
+        (world F.files F.faults O.taken O.faults files.old out.old) (world F.files F.faults O.taken O.faults files.new out.new) result }
 {
     run(alloc, words, files, out).code()
 }

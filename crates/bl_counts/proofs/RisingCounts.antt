@@ -79,11 +79,6 @@ no_count : (k s : ℕ) (rest : List SiteCount) → Ahead k rest → s < k → co
 no_count k s [] ahead lt = refl
 no_count k s (one ∷ others) ahead lt = rw (ne_eqb one.at.0 s (λ e. let le = ahead.0 in omega arith)) (no_count (suc one.at.0) s others ahead.1 (let le = ahead.0 in omega arith))
 
--- what is left behind a position
-abbrev pub left_behind : ℕ → List SiteCount → List SiteCount
-left_behind at [] = []
-left_behind at (one ∷ others) = if one.at.0 == at then others else one ∷ others
-
 pub here : (at : ℕ) (rest : List SiteCount) → Ahead at rest → count_in rest at ≡ unwrap_or (named rest at) 0
 here at [] ahead = refl
 here at (one ∷ others) ahead = by (one.at.0 == at) refl

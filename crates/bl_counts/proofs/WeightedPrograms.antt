@@ -15,7 +15,7 @@ use Rattle.bl_cmd.specs.Sites.{mark_of, mark_at, listed, site_weight, weight_of}
 use Rattle.bl_cmd.specs.declared.command.Mark.{Mark}
 use Rattle.bl_cmd.specs.declared.command.Operand.{Operand}
 use Rattle.bl_cmd.specs.declared.command.Command.{Command}
-use Rattle.bl_cmd.specs.declared.command.Command.TheVariants.{Set, Load, Store, Test, Jump, Arg, Call, Out, Ret, Trap}
+use Rattle.bl_cmd.specs.declared.command.Command.TheVariants.{Set}
 use Rattle.bl_cmd.specs.declared.definitions.ProgramParts.{ProgramParts as Program}
 use Rattle.bl_cmd.specs.declared.definitions.SiteWeight.{SiteWeight}
 use Rattle.bl_counts.specs.RunCounts.{count_in, is_site, size_of, total, weight_by, weighed, weighed_by, weights_from, with_weight}

@@ -29,9 +29,6 @@ module _ {X : Type 0} (P : X → Type 0) (xs : List X) where
   ]
 
 module _ (client library : Program) (iface : Iface) where
-  abbrev Answers : Result Program JoinError → Type 0
-  Answers = JoinAnswers client library iface
-
   no_types : (i : ℕ) → StandsAgainst client library iface (Types i) → All (HasSameTypes client library) iface.functions → ⊥
   no_types = none_of_all (HasSameTypes client library) iface.functions
 

@@ -110,9 +110,6 @@ sunk_among _ x h = absurd h
 
 module _ (part whole : Program) (shift : Shift) (n : Renaming) (typing joint set : ℕ → Bool) (s : Shifted part whole shift n) (e : Embeds part whole n (λ f. shift.functions + f))
     (write_is : (x : ℕ) → n.write x ≡ moved_var shift part x) (typed : Typed part whole shift n typing joint) (well : IsWellFormed part) (flows : Flows part typing set) where
-  abbrev Written : ℕ → Command → ℕ → Type 0
-  Written p c y = (was : ℕ) × (written_by part p c ≡ Some was) × (IsTrue (typing was) → IsTrue (joint y))
-
   -- a variable that is written where it is moved to
   assigned : (x y : ℕ) → x < first_of part (length part.functions) → Some (n.write x) ≡ Some y → IsTrue (typing x) → IsTrue (joint y)
   assigned x y lt is t = ap joint (sym (same_Some (n.write x) y is) ∙ write_is x) ∙ typed.same x lt ∙ t

@@ -59,24 +59,22 @@ impl From<NoMemory> for UnderError {
 /// and the interface, and memory linear in these.
 pub fn least_under(
     alloc: Global,
-    p: &WellFormed,
+    program: &WellFormed,
     role: Role,
-    i: &Iface,
+    iface: &Iface,
 ) -> Result<UnderChoice, UnderError>
-    requires { Matches p.now i.now }
-    ensures least { IfOk result (λ choice. LeastUnder (asked role i.now p.now) p.now (fin.contains choice.protects)) }
-    ensures weight { IfOk result (λ choice. choice.weight ≡ weight_of p.now (fin.contains choice.protects)) }
-    ensures refused { IfErr result (IsUnderError (asked role i.now p.now) p.now) }
+    requires { Matches program.now iface.now }
+    ensures least { IfOk result (λ choice. LeastUnder (asked role iface.now program.now) program.now (fin.contains choice.protects)) }
+    ensures weight { IfOk result (λ choice. choice.weight ≡ weight_of program.now (fin.contains choice.protects)) }
+    ensures refused { IfErr result (IsUnderError (asked role iface.now program.now) program.now) }
 {
-    // What is known of the program is read with it.
-    let _parts = p.program().parts();
-    let graph = graph(alloc, p)?;
-    let asked = asked_of(alloc, p, role, i)?;
-    let first = first_given(alloc, p, &graph, &asked)?;
+    let graph = graph(alloc, program)?;
+    let asked = asked_of(alloc, program, role, iface)?;
+    let first = first_given(alloc, program, &graph, &asked)?;
     if let Some(position) = first {
         return Err(UnderError::Sink(position));
     }
-    let choice = least_under_of(alloc, p, &graph, &asked)?;
+    let choice = least_under_of(alloc, program, &graph, &asked)?;
     Ok(UnderChoice {
         protects: choice.protects,
         weight: choice.weight,
@@ -87,13 +85,13 @@ pub fn least_under(
 /// how much is asked.
 fn first_given(
     alloc: Global,
-    p: &WellFormed,
+    program: &WellFormed,
     graph: &Graph,
     asked: &AskedOf,
 ) -> Result<Option<Pos>, NoMemory>
-    requires { IsGraph p.now graph.now }
-    ensures { IfOk result (λ found. MatchOption found ((position : ℕ) → IsGiven (asked_of asked.now) p.now position → ⊥)
-        (λ position. IsFirstGiven (asked_of asked.now) p.now position.0)) }
+    requires { IsGraph program.now graph.now }
+    ensures { IfOk result (λ found. MatchOption found ((position : ℕ) → IsGiven (asked_of asked.now) program.now position → ⊥)
+        (λ position. IsFirstGiven (asked_of asked.now) program.now position.0)) }
 {
     let given = set_of(alloc, asked.hot.as_slice())?;
     Ok(first_of(&given, graph.sinks.as_slice()))

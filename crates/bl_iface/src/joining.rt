@@ -1,6 +1,8 @@
 //! Two programs joined.
 ghost use Rattle.std.specs.Prelude.{◌≡◌, ◌++◌, ◌+◌, ◌<◌, ◌≤◌, ◌^◌, IfOk, IfErr, OnOk, drop, length, map};
 ghost use Rattle.bl_cmd.specs.Layout.{first_of, statics};
+ghost use Rattle.bl_cmd.specs.Programs.{IsProgram};
+ghost use Rattle.bl_cmd.specs.Rules.{IsWellFormed};
 ghost use Rattle.bl_cmd.specs.Tables.{AreValues};
 ghost use Rattle.bl_iface.specs.Answers.{JoinAnswers, StandsAgainst};
 ghost use Rattle.bl_iface.specs.JoinedProgram.{CanJoin, client_numbers, client_shift, demands_of, joined, kept as exports_kept, library_numbers, library_shift, moved_export, moved_weight, renamed};
@@ -41,24 +43,24 @@ pub fn join(
     alloc: Global,
     client: &WellFormed,
     library: &WellFormed,
-    i: &Iface,
+    iface: &Iface,
 ) -> Result<WellFormed, JoinError>
-    requires client { Matches client.now i.now }
-    requires library { Matches library.now i.now }
-    ensures { JoinAnswers client.now library.now i.now result }
+    requires client { Matches client.now iface.now }
+    requires library { Matches library.now iface.now }
+    ensures { JoinAnswers client.now library.now iface.now result }
 {
-    let ours = matched(alloc, client, i)?;
-    let theirs = matched(alloc, library, i)?;
+    let ours = matched(alloc, client, iface)?;
+    let theirs = matched(alloc, library, iface)?;
     let kept = kept_exports(
         alloc,
         client.program().parts().exports.as_slice(),
-        i.functions.as_slice(),
+        iface.functions.as_slice(),
     )?;
     test_all(
         alloc,
         client,
         library,
-        i,
+        iface,
         ours.as_slice(),
         theirs.as_slice(),
         kept.as_slice(),
@@ -67,33 +69,35 @@ pub fn join(
         alloc,
         client,
         library,
-        i,
+        iface,
         ours.as_slice(),
         theirs.as_slice(),
     )?;
-    let parts = joined_parts(alloc, client, library, i, goals.as_slice(), kept)?;
-    Ok(assembled(client, library, i, parts))
+    let parts = joined_parts(alloc, client, library, iface, goals.as_slice(), kept)?;
+    Ok(assembled(parts))
 }
 
-/// Tests whether the two can be joined; the first thing that stands against it is the error.
+/// Tests whether the two can be joined to a well-formed program; the first thing that stands against it is the error.
 fn test_all(
     alloc: Global,
     client: &WellFormed,
     library: &WellFormed,
-    i: &Iface,
+    iface: &Iface,
     ours: &[u32],
     theirs: &[u32],
     kept: &[ExportDef],
 ) -> Result<(), JoinError>
-    requires ours { AreTargets client.now i.now ours.now }
-    requires theirs { AreTargets library.now i.now theirs.now }
-    requires kept { kept.now ≡ exports_kept i.now client.now }
-    ensures can { OnOk result (CanJoin client.now library.now i.now) }
-    ensures refused { IfErr result (StandsAgainst client.now library.now i.now) }
+    requires ours { AreTargets client.now iface.now ours.now }
+    requires theirs { AreTargets library.now iface.now theirs.now }
+    requires kept { kept.now ≡ exports_kept iface.now client.now }
+    ensures can { OnOk result (CanJoin client.now library.now iface.now) }
+    ensures program { OnOk result (IsProgram (joined client.now library.now iface.now)) }
+    ensures rules { OnOk result (IsWellFormed (joined client.now library.now iface.now)) }
+    ensures refused { IfErr result (StandsAgainst client.now library.now iface.now) }
 {
     let client_parts = client.program().parts();
     let library_parts = library.program().parts();
-    if let Some(index) = first_unlike(client_parts, library_parts, i, ours, theirs) {
+    if let Some(index) = first_unlike(client_parts, library_parts, iface, ours, theirs) {
         return Err(JoinError::Types(index));
     }
     if let Some(index) = first_taken(alloc, kept, library_parts.exports.as_slice())? {
@@ -113,19 +117,19 @@ fn joined_parts(
     alloc: Global,
     client: &WellFormed,
     library: &WellFormed,
-    i: &Iface,
+    iface: &Iface,
     goals: &[Option<u32>],
     kept: List<ExportDef>,
 ) -> Result<ProgramParts, NoMemory>
-    requires can { CanJoin client.now library.now i.now }
-    requires goals { LeadsTo i.now client.now library.now goals.now }
-    requires kept { kept ≡ exports_kept i.now client.now }
-    ensures { IfOk result (λ parts. parts ≡ joined client.now library.now i.now) }
+    requires can { CanJoin client.now library.now iface.now }
+    requires goals { LeadsTo iface.now client.now library.now goals.now }
+    requires kept { kept ≡ exports_kept iface.now client.now }
+    ensures { IfOk result (λ parts. parts ≡ joined client.now library.now iface.now) }
 {
     let ours = client.program().parts();
     let theirs = library.program().parts();
     let exports = exports_of(alloc, client, library, kept)?;
-    let commands = commands_of(alloc, client, library, i, goals)?;
+    let commands = commands_of(alloc, client, library, iface, goals)?;
     Ok(ProgramParts {
         globals: both(alloc, ours.globals.as_slice(), theirs.globals.as_slice())?,
         memories: memories_of(alloc, ours.memories.as_slice(), theirs.memories.as_slice())?,
@@ -195,12 +199,12 @@ fn commands_of(
     alloc: Global,
     client: &WellFormed,
     library: &WellFormed,
-    i: &Iface,
+    iface: &Iface,
     goals: &[Option<u32>],
 ) -> Result<List<Command>, NoMemory>
-    requires can { CanJoin client.now library.now i.now }
-    requires goals { LeadsTo i.now client.now library.now goals.now }
-    ensures { IfOk result (λ commands. commands ≡ (joined client.now library.now i.now).commands) }
+    requires can { CanJoin client.now library.now iface.now }
+    requires goals { LeadsTo iface.now client.now library.now goals.now }
+    ensures { IfOk result (λ commands. commands ≡ (joined client.now library.now iface.now).commands) }
 {
     let client_firsts = firsts_of(alloc, client.program().parts())?;
     let library_firsts = firsts_of(alloc, library.program().parts())?;
@@ -213,7 +217,7 @@ fn commands_of(
         &mut commands,
         client,
         library,
-        i,
+        iface,
         client_firsts.as_slice(),
         library_firsts.as_slice(),
         goals,
@@ -222,7 +226,7 @@ fn commands_of(
         &mut commands,
         client,
         library,
-        i,
+        iface,
         client_firsts.as_slice(),
         library_firsts.as_slice(),
     )?;
@@ -234,16 +238,16 @@ fn push_client(
     to: &mut List<Command>,
     client: &WellFormed,
     library: &WellFormed,
-    i: &Iface,
+    iface: &Iface,
     client_firsts: &[u32],
     library_firsts: &[u32],
     goals: &[Option<u32>],
 ) -> Result<(), NoMemory>
-    requires can { CanJoin client.now library.now i.now }
+    requires can { CanJoin client.now library.now iface.now }
     requires client_firsts { AreValues (first_of client.now) (length client.now.functions) client_firsts.now }
     requires library_firsts { AreValues (first_of library.now) (length library.now.functions) library_firsts.now }
-    requires goals { LeadsTo i.now client.now library.now goals.now }
-    ensures { OnOk result (to.new ≡ to.old ++ map (renamed (client_numbers i.now client.now library.now)) (drop 7 client.now.commands)) }
+    requires goals { LeadsTo iface.now client.now library.now goals.now }
+    ensures { OnOk result (to.new ≡ to.old ++ map (renamed (client_numbers iface.now client.now library.now)) (drop 7 client.now.commands)) }
 {
     let part = client.program().parts();
     let other = library.program().parts();
@@ -264,11 +268,11 @@ fn push_library(
     to: &mut List<Command>,
     client: &WellFormed,
     library: &WellFormed,
-    i: &Iface,
+    iface: &Iface,
     client_firsts: &[u32],
     library_firsts: &[u32],
 ) -> Result<(), NoMemory>
-    requires can { CanJoin client.now library.now i.now }
+    requires can { CanJoin client.now library.now iface.now }
     requires client_firsts { AreValues (first_of client.now) (length client.now.functions) client_firsts.now }
     requires library_firsts { AreValues (first_of library.now) (length library.now.functions) library_firsts.now }
     ensures { OnOk result (to.new ≡ to.old ++ map (renamed (library_numbers client.now library.now)) (drop 7 library.now.commands)) }
@@ -362,18 +366,11 @@ fn library_shift(client: &ProgramParts) -> Shift
 }
 
 /// The parts as a well-formed program; takes no memory.
-fn assembled(
-    client: &WellFormed,
-    library: &WellFormed,
-    i: &Iface,
-    parts: ProgramParts,
-) -> WellFormed
-    requires can { CanJoin client.now library.now i.now }
-    requires parts { parts ≡ joined client.now library.now i.now }
-    ensures { result ≡ joined client.now library.now i.now }
+fn assembled(parts: ProgramParts) -> WellFormed
+    requires program { IsProgram parts }
+    requires rules { IsWellFormed parts }
+    ensures { result ≡ parts }
 {
-    let _ours = client.program().parts();
-    let _theirs = library.program().parts();
     match Program::of(parts) {
         Ok(program) => WellFormed::of(program),
         Err(_) => unreachable!(),

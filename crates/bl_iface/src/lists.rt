@@ -1,8 +1,10 @@
 //! What a role asks of a program's variables, as lists.
-ghost use Rattle.std.specs.Prelude.{◌≡◌, ◌+◌, ◌++◌, ◌<◌, ◌^◌, IfOk, OnOk, Some, length};
+ghost use Rattle.std.specs.Prelude.{◌≡◌, ◌+◌, ◌++◌, ◌<◌, ◌^◌, ℕ, IfOk, OnOk, Some, length};
+ghost use Rattle.std.specs.List.{All, Contains};
 ghost use Rattle.bl_cmd.specs.Layout.{first_of};
 ghost use Rattle.bl_cmd.specs.Rules.{Rule2};
 ghost use Rattle.bl_cmd.specs.Tables.{AreValues};
+ghost use Rattle.bl_graph.specs.Ranges.{variables};
 ghost use Rattle.bl_iface.specs.RoleLists.{AreAsked, Lists, called_from, kept_if};
 ghost use Rattle.bl_iface.specs.InterfaceFunctions.{AreTargets, Matches};
 ghost use Rattle.bl_iface.specs.RoleTests.{is_flow, params_called, results_called};
@@ -16,20 +18,30 @@ use std::alloc::Global;
 
 /// What a role asks of a program that has the functions of an interface: the library has the parameters that are called transient as
 /// given, and owes the results that are called stable; the client is given results and owes parameters. A variable may stand more than
-/// once. Costs the interface, the functions and the exports, but for a logarithm of how many exports there are.
+/// once, but not both as given and as owed. Costs the interface, the functions and the exports, but for a logarithm of how many exports there are.
 pub(crate) fn asked_of(
     alloc: Global,
-    p: &WellFormed,
+    program: &WellFormed,
     role: Role,
-    i: &Iface,
+    iface: &Iface,
 ) -> Result<AskedOf, NoMemory>
-    requires { Matches p.now i.now }
-    ensures { IfOk result (AreAsked role i.now p.now) }
+    requires { Matches program.now iface.now }
+    ensures asked { IfOk result (AreAsked role iface.now program.now) }
+    ensures hot { IfOk result (λ asked. All (λ x. x < variables program.now) asked.hot) }
+    ensures firm { IfOk result (λ asked. All (λ x. x < variables program.now) asked.firm) }
+    ensures apart { IfOk result (λ asked. (x : ℕ) → Contains asked.hot x → Contains asked.firm x → ⊥) }
 {
-    let parts = p.program().parts();
-    let targets = matched(alloc, p, i)?;
+    let parts = program.program().parts();
+    let targets = matched(alloc, program, iface)?;
     let firsts = firsts_of(alloc, parts)?;
-    asked_at(alloc, role, parts, i, firsts.as_slice(), targets.as_slice())
+    asked_at(
+        alloc,
+        role,
+        parts,
+        iface,
+        firsts.as_slice(),
+        targets.as_slice(),
+    )
 }
 
 /// The same by the first variable of each of the program's functions, and by the interface's functions, by their numbers.
@@ -37,25 +49,25 @@ fn asked_at(
     alloc: Global,
     role: Role,
     parts: &ProgramParts,
-    i: &Iface,
+    iface: &Iface,
     firsts: &[u32],
     targets: &[u32],
 ) -> Result<AskedOf, NoMemory>
     requires rule { Rule2 parts.now }
-    requires matches { Matches parts.now i.now }
+    requires matches { Matches parts.now iface.now }
     requires firsts { AreValues (first_of parts.now) (length parts.now.functions) firsts.now }
-    requires targets { AreTargets parts.now i.now targets.now }
-    ensures { IfOk result (AreAsked role i.now parts.now) }
+    requires targets { AreTargets parts.now iface.now targets.now }
+    ensures { IfOk result (AreAsked role iface.now parts.now) }
 {
     match role {
         Role::Client => {
-            let hot = results_called(alloc, Flow::Transient, parts, i, firsts, targets)?;
-            let firm = params_called(alloc, Flow::Stable, parts, i, firsts, targets)?;
+            let hot = results_called(alloc, Flow::Transient, parts, iface, firsts, targets)?;
+            let firm = params_called(alloc, Flow::Stable, parts, iface, firsts, targets)?;
             Ok(AskedOf { hot, firm })
         }
         Role::Library => {
-            let hot = params_called(alloc, Flow::Transient, parts, i, firsts, targets)?;
-            let firm = results_called(alloc, Flow::Stable, parts, i, firsts, targets)?;
+            let hot = params_called(alloc, Flow::Transient, parts, iface, firsts, targets)?;
+            let firm = results_called(alloc, Flow::Stable, parts, iface, firsts, targets)?;
             Ok(AskedOf { hot, firm })
         }
     }
@@ -66,18 +78,18 @@ fn params_called(
     alloc: Global,
     flow: Flow,
     parts: &ProgramParts,
-    i: &Iface,
+    iface: &Iface,
     firsts: &[u32],
     targets: &[u32],
 ) -> Result<List<u32>, NoMemory>
     requires rule { Rule2 parts.now }
-    requires matches { Matches parts.now i.now }
+    requires matches { Matches parts.now iface.now }
     requires firsts { AreValues (first_of parts.now) (length parts.now.functions) firsts.now }
-    requires targets { AreTargets parts.now i.now targets.now }
-    ensures { IfOk result (Lists (params_called flow i.now parts.now)) }
+    requires targets { AreTargets parts.now iface.now targets.now }
+    ensures { IfOk result (Lists (params_called flow iface.now parts.now)) }
 {
     let mut called = List::new(alloc);
-    for (index, one) in i.functions.as_slice().iter().enumerate() {
+    for (index, one) in iface.functions.as_slice().iter().enumerate() {
         let first = firsts[targets[index] as usize];
         push_called(&mut called, flow, one.params.as_slice(), first)?;
     }
@@ -89,18 +101,18 @@ fn results_called(
     alloc: Global,
     flow: Flow,
     parts: &ProgramParts,
-    i: &Iface,
+    iface: &Iface,
     firsts: &[u32],
     targets: &[u32],
 ) -> Result<List<u32>, NoMemory>
     requires rule { Rule2 parts.now }
-    requires matches { Matches parts.now i.now }
+    requires matches { Matches parts.now iface.now }
     requires firsts { AreValues (first_of parts.now) (length parts.now.functions) firsts.now }
-    requires targets { AreTargets parts.now i.now targets.now }
-    ensures { IfOk result (Lists (results_called flow i.now parts.now)) }
+    requires targets { AreTargets parts.now iface.now targets.now }
+    ensures { IfOk result (Lists (results_called flow iface.now parts.now)) }
 {
     let mut called = List::new(alloc);
-    for (index, one) in i.functions.as_slice().iter().enumerate() {
+    for (index, one) in iface.functions.as_slice().iter().enumerate() {
         let first = firsts[targets[index] as usize] + one.params.len() as u32;
         push_called(&mut called, flow, one.results.as_slice(), first)?;
     }

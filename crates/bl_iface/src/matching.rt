@@ -14,15 +14,19 @@ use std::alloc::Global;
 /// The functions of an interface in a program, by their numbers in the interface's order. Unmatched exactly where one isn't an export of the
 /// program with as many parameters and results: the first such one's index. Costs the interface and the exports, each times the logarithm of
 /// how many exports there are.
-pub fn targets(alloc: Global, p: &WellFormed, i: &Iface) -> Result<List<u32>, TargetsError>
-    ensures found { IfOk result (AreTargets p.now i.now) }
-    ensures matched { IfOk result (λ _. Matches p.now i.now) }
-    ensures refused { IfErr result (IsTargetsError p.now i.now) }
+pub fn targets(
+    alloc: Global,
+    program: &WellFormed,
+    iface: &Iface,
+) -> Result<List<u32>, TargetsError>
+    ensures found { IfOk result (AreTargets program.now iface.now) }
+    ensures matched { IfOk result (λ _. Matches program.now iface.now) }
+    ensures refused { IfErr result (IsTargetsError program.now iface.now) }
 {
-    let parts = p.program().parts();
+    let parts = program.program().parts();
     let numbers = numbers_of(alloc, parts.exports.as_slice())?;
     let mut targets = List::new(alloc);
-    for (index, one) in i.functions.as_slice().iter().enumerate() {
+    for (index, one) in iface.functions.as_slice().iter().enumerate() {
         let found = numbers.get(&one.name.as_slice()).copied();
         let Some(target) = fitting(parts, found, one) else {
             return Err(TargetsError::Unmatched(index as u64));
@@ -33,11 +37,15 @@ pub fn targets(alloc: Global, p: &WellFormed, i: &Iface) -> Result<List<u32>, Ta
 }
 
 /// The functions of an interface in a program that has them.
-pub(crate) fn matched(alloc: Global, program: &WellFormed, i: &Iface) -> Result<List<u32>, NoMemory>
-    requires { Matches program.now i.now }
-    ensures { IfOk result (AreTargets program.now i.now) }
+pub(crate) fn matched(
+    alloc: Global,
+    program: &WellFormed,
+    iface: &Iface,
+) -> Result<List<u32>, NoMemory>
+    requires { Matches program.now iface.now }
+    ensures { IfOk result (AreTargets program.now iface.now) }
 {
-    match targets(alloc, program, i) {
+    match targets(alloc, program, iface) {
         Ok(targets) => Ok(targets),
         Err(TargetsError::Unmatched(_)) => unreachable!(),
         Err(TargetsError::Memory) => Err(NoMemory),
@@ -46,11 +54,11 @@ pub(crate) fn matched(alloc: Global, program: &WellFormed, i: &Iface) -> Result<
 
 /// The first function of the interface, by its index from 0, that isn't an export of the program with as many parameters and results; None
 /// exactly where each is. Looks each name up among all exports; takes no memory.
-pub fn unmatched(p: &WellFormed, i: &Iface) -> Option<u64>
-    ensures { MatchOption result (Matches p.now i.now) (IsFirstWithout (IsMatched p.now) i.now.functions) }
+pub fn unmatched(program: &WellFormed, iface: &Iface) -> Option<u64>
+    ensures { MatchOption result (Matches program.now iface.now) (IsFirstWithout (IsMatched program.now) iface.now.functions) }
 {
-    let parts = p.program().parts();
-    for (index, one) in i.functions.as_slice().iter().enumerate() {
+    let parts = program.program().parts();
+    for (index, one) in iface.functions.as_slice().iter().enumerate() {
         let found = function_named(parts.exports.as_slice(), one.name.as_slice());
         let Some(_target) = fitting(parts, found, one) else {
             return Some(index as u64);

@@ -15,13 +15,13 @@ use std::alloc::Global;
 pub(crate) fn first_unlike(
     client: &ProgramParts,
     library: &ProgramParts,
-    i: &Iface,
+    iface: &Iface,
     ours: &[u32],
     theirs: &[u32],
 ) -> Option<u64>
-    requires ours { AreTargets client.now i.now ours.now }
-    requires theirs { AreTargets library.now i.now theirs.now }
-    ensures { MatchOption result (All (HasSameTypes client.now library.now) i.now.functions) (IsFirstWithout (HasSameTypes client.now library.now) i.now.functions) }
+    requires ours { AreTargets client.now iface.now ours.now }
+    requires theirs { AreTargets library.now iface.now theirs.now }
+    ensures { MatchOption result (All (HasSameTypes client.now library.now) iface.now.functions) (IsFirstWithout (HasSameTypes client.now library.now) iface.now.functions) }
 {
     for index in 0..ours.len() {
         let one = &client.functions.as_slice()[ours[index] as usize];

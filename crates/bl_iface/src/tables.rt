@@ -14,16 +14,15 @@ pub(crate) fn goals_of(
     alloc: Global,
     client: &WellFormed,
     library: &WellFormed,
-    i: &Iface,
+    iface: &Iface,
     ours: &[u32],
     theirs: &[u32],
 ) -> Result<List<Option<u32>>, NoMemory>
-    requires ours { AreTargets client.now i.now ours.now }
-    requires theirs { AreTargets library.now i.now theirs.now }
-    ensures { IfOk result (LeadsTo i.now client.now library.now) }
+    requires ours { AreTargets client.now iface.now ours.now }
+    requires theirs { AreTargets library.now iface.now theirs.now }
+    ensures { IfOk result (LeadsTo iface.now client.now library.now) }
 {
     let mut goals = no_goals(alloc, client.program().parts().functions.len())?;
-    let _functions = i.functions.as_slice();
     let mut left = ours.len();
     while left > 0 {
         left -= 1;

@@ -27,18 +27,18 @@ pub enum UnderVerdict {
 /// of how many exports there are and for a sort where the commands name few of the program's variables. Want of memory is the only error.
 pub fn passes_under(
     alloc: Global,
-    p: &WellFormed,
+    program: &WellFormed,
     role: Role,
-    i: &Iface,
+    iface: &Iface,
 ) -> Result<UnderVerdict, NoMemory>
-    requires { Matches p.now i.now }
-    ensures { IfOk result (JudgesAs role i.now p.now (is_protected p.now)) }
+    requires { Matches program.now iface.now }
+    ensures { IfOk result (JudgesAs role iface.now program.now (is_protected program.now)) }
 {
-    let graph = graph(alloc, p)?;
-    let asked = asked_of(alloc, p, role, i)?;
-    let parts = p.program().parts();
+    let graph = graph(alloc, program)?;
+    let asked = asked_of(alloc, program, role, iface)?;
+    let parts = program.program().parts();
     let protects = own_protects(alloc, parts, parts.commands.len() as u32)?;
-    let bad = first_bad_of(alloc, p, &graph, &asked, &protects)?;
+    let bad = first_bad_of(alloc, program, &graph, &asked, &protects)?;
     match bad {
         None => Ok(UnderVerdict::Yes),
         Some(position) => Ok(UnderVerdict::No(position)),

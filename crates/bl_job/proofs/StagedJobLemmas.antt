@@ -8,7 +8,7 @@ use Rattle.bl_job.specs.Stages.{IsLawfulStage, Stage}
 use Rattle.bl_job.specs.declared.refusal.WorkError.{WorkError}
 use Rattle.bl_job.specs.WorkAnswers.{Tells, IsDoneBehind, IsWork, plan_in}
 use Rattle.bl_job.specs.Jobs.{AreThere, IsLawful, IsSmall, IsTotal, KeepsNamed, Plan, Read}
-use Rattle.bl_job.specs.StagedJobs.{Did, Stand, WasDone, ReadPasses, ReadRefuses, Reading, Staged, all_read, others, contents_stage, file, staged_job}
+use Rattle.bl_job.specs.StagedJobs.{DeedMeans, Stand, WasDone, ReadPasses, ReadRefuses, Reading, Staged, all_read, others, contents_stage, file, staged_job}
 use Rattle.bl_job.specs.Status.{kind_of, of_deed}
 use Rattle.bl_job.specs.Worlds.{World}
 use Rattle.bl_job.proofs.KeptFiles.{all_stand}
@@ -120,8 +120,8 @@ module _ {B Given : Type 0} (staged : Staged B) (laws : IsStagedCommand Given st
   }
 
   -- what is said where the job was done
-  pub did : (old new : World) (status : Status) → WasDone (staged_job staged) old new status → Did staged old new status
-  did old new status d = record {
+  pub deed_means : (old new : World) (status : Status) → WasDone (staged_job staged) old new status → DeedMeans staged old new status
+  deed_means old new status d = record {
     done = d;
     means = made staged.reading (λ contents b. (plan : Plan) → staged.Plans b plan → staged.Means contents b plan) laws.means d.contents d.does.made d.does.passes d.plan d.does.plans;
     stand = subst (λ files. Stand files d.plan.keeps) (sym d.kept) (all_stand old.files d.plan.keeps);

@@ -83,7 +83,7 @@ Stand files (keep ∷ keeps) = (AreOthers keep.0 keeps → FileIs files keep.0 k
 
 -- what is said where the job was done: the stage made that of the contents, what was planned for it was done, and that means this; and the files
 -- that were kept are there
-pub record Did {B : Type 0} (staged : Staged B) (old new : World) (status : Status) : Type 0 where
+pub record DeedMeans {B : Type 0} (staged : Staged B) (old new : World) (status : Status) : Type 0 where
   pub done : WasDone (staged_job staged) old new status
   pub means : staged.Means done.contents done.does.made done.plan
   pub stand : Stand new.files done.plan.keeps

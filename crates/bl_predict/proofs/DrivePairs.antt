@@ -16,7 +16,7 @@ use Rattle.bl_rob.specs.declared.entry.Entry.{Entry}
 use Rattle.bl_rob.specs.declared.entry.Work.{Work}
 use Rattle.bl_rob.specs.declared.entry.Work.TheVariants.{Nop, Assign, Load, Held, Done, Store, Ready, Guard, Fail}
 use Rattle.bl_rob.proofs.PlainTracks.{entry_at}
-use Rattle.bl_predict.specs.Drives.{DriveState, AreSame, begun, first_of, chosen, guess_at, shows_read, guard_at, guard_of, moved, taught, touched, after_observation, stepped, turn_by, turn, unless_ended, driven}
+use Rattle.bl_predict.specs.Drives.{DriveState, AreSame, begun, first_of, chosen, guess_at, shows_read, guard_at, guard_of, moved, taught, touched, after_observation, stepped, drive_step_by, drive_step, unless_ended, driven}
 use Rattle.bl_predict.specs.Lines.{line_of, has, accessed}
 use Rattle.bl_predict.specs.Outlines.{IsOther, guards, fails, others, SameOutlines, none, more, Outline}
 use Rattle.bl_predict.proofs.OutlineLemmas.{Both, SameGet, no_entry, an_entry, same_get, step_both}
@@ -158,14 +158,14 @@ module _ (Q : Program) where
     misses = m.misses;
   })
 
-  turn_by_both : (d e : DriveState) (o : Option Directive) → Same d e → Same (turn_by Q d o) (turn_by Q e o)
-  turn_by_both d e None m = m
-  turn_by_both d e (Some directive) m =
+  drive_step_by_both : (d e : DriveState) (o : Option Directive) → Same d e → Same (drive_step_by Q d o) (drive_step_by Q e o)
+  drive_step_by_both d e None m = m
+  drive_step_by_both d e (Some directive) m =
       stepped_both d e directive m (directive_step 64 Q d.state directive) (directive_step 64 Q e.state directive)
       (paired m.place d.state e.state directive m.outline m.future)
 
-  turn_both : (d e : DriveState) → Same d e → Same (turn Q d) (turn Q e)
-  turn_both d e m = subst (λ o. Same (turn Q d) (turn_by Q e o)) (same_chosen d e m) (turn_by_both d e (chosen Q d.counters d.state) m)
+  drive_step_both : (d e : DriveState) → Same d e → Same (drive_step Q d) (drive_step Q e)
+  drive_step_both d e m = subst (λ o. Same (drive_step Q d) (drive_step_by Q e o)) (same_chosen d e m) (drive_step_by_both d e (chosen Q d.counters d.state) m)
 
   unless_both : (end : Option End) (next last d e : DriveState) → Same next last → Same d e → Same (unless_ended end next d) (unless_ended end last e)
   unless_both None next last d e n m = n
@@ -174,8 +174,8 @@ module _ (Q : Program) where
   driven_both : (most : ℕ) (d e : DriveState) → Same d e → Same (driven Q most d) (driven Q most e)
   driven_both zero d e m = m
   driven_both (suc most) d e m =
-      subst (λ end. Same (driven Q (suc most) d) (unless_ended end (driven Q most (turn Q e)) e)) (same_end d.state e.state d.state.buffer e.state.buffer m.outline.front m.outline.entries)
-      (unless_both (end_in d.state) (driven Q most (turn Q d)) (driven Q most (turn Q e)) d e (driven_both most (turn Q d) (turn Q e) (turn_both d e m)) m)
+      subst (λ end. Same (driven Q (suc most) d) (unless_ended end (driven Q most (drive_step Q e)) e)) (same_end d.state e.state d.state.buffer e.state.buffer m.outline.front m.outline.entries)
+      (unless_both (end_in d.state) (driven Q most (drive_step Q d)) (driven Q most (drive_step Q e)) d e (driven_both most (drive_step Q d) (drive_step Q e) (drive_step_both d e m)) m)
 
   -- a drive that begins with the machine in a state
   abbrev pub begun_in : State → DriveState
@@ -209,13 +209,13 @@ module _ (one other : Program) (same : (s : State) (d : Directive) → directive
   chosen_same : (counters : List ℕ) (s : State) → chosen one counters s ≡ chosen other counters s
   chosen_same counters s = λ i. first_of (λ x. is_some (same s x i)) (λ n. shows_read (same s (Exec n) i)) (guess_at counters (position_of s.front)) 64
 
-  turn_by_same : (d : DriveState) (o : Option Directive) → turn_by one d o ≡ turn_by other d o
-  turn_by_same d None = refl
-  turn_by_same d (Some directive) = ap (stepped d directive) (same d.state directive)
+  drive_step_by_same : (d : DriveState) (o : Option Directive) → drive_step_by one d o ≡ drive_step_by other d o
+  drive_step_by_same d None = refl
+  drive_step_by_same d (Some directive) = ap (stepped d directive) (same d.state directive)
 
-  turn_same : (d : DriveState) → turn one d ≡ turn other d
-  turn_same d = turn_by_same d (chosen one d.counters d.state) ∙ ap (turn_by other d) (chosen_same d.counters d.state)
+  drive_step_same : (d : DriveState) → drive_step one d ≡ drive_step other d
+  drive_step_same d = drive_step_by_same d (chosen one d.counters d.state) ∙ ap (drive_step_by other d) (chosen_same d.counters d.state)
 
   pub driven_same : (most : ℕ) (d : DriveState) → driven one most d ≡ driven other most d
   driven_same zero d = refl
-  driven_same (suc most) d = ap (λ next. unless_ended (end_in d.state) next d) (driven_same most (turn one d) ∙ ap (driven other most) (turn_same d))
+  driven_same (suc most) d = ap (λ next. unless_ended (end_in d.state) next d) (driven_same most (drive_step one d) ∙ ap (driven other most) (drive_step_same d))

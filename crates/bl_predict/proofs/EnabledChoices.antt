@@ -13,7 +13,7 @@ use Rattle.bl_rob.specs.declared.directive.Directive.TheVariants.{Fetch, Predict
 use Rattle.bl_rob.specs.declared.directive.End.{End}
 use Rattle.bl_rob.specs.declared.directive.Observation.{Observation}
 use Rattle.bl_rob.specs.declared.directive.Observation.TheVariants as seen
-use Rattle.bl_predict.specs.Drives.{DriveState, begun, chosen, driven, first_of, guessed, least, after_observation, or_else, shows_read, stepped, turn, turn_by, unless_ended}
+use Rattle.bl_predict.specs.Drives.{DriveState, begun, chosen, driven, first_of, guessed, least, after_observation, or_else, shows_read, stepped, drive_step, drive_step_by, unless_ended}
 use Rattle.bl_predict.specs.DriveDirectives.{IsEachTaken, IsNear}
 
 -- ---- directives that are all enabled, and one more
@@ -81,59 +81,59 @@ first_near enabled reads guess =
     (near_or (least reads 64) _ (least_below reads 64)
     (near_or (least (λ n. enabled (Exec n)) 64) _ (least_below (λ n. enabled (Exec n)) 64) (near_if (enabled Retire) Retire None tt tt))))
 
--- ---- turns
+-- ---- steps
 
-pub record Takes (Q : Program) (from : State) (turns : ℕ) (d : DriveState) : Type 0 where
+pub record Takes (Q : Program) (from : State) (steps : ℕ) (d : DriveState) : Type 0 where
   pub all : AllLead (directive_step 64 Q) 1 d.trace from d.state
-  pub few : length d.trace ≤ turns
+  pub few : length d.trace ≤ steps
   pub near : All IsNear d.trace
 
 module _ (Q : Program) (from : State) where
-  later : (turns : ℕ) (d : DriveState) → Takes Q from turns d → Takes Q from (turns + 1) d
-  later turns d h = record { all = h.all; few = omega (arith, h.few); near = h.near }
+  later : (steps : ℕ) (d : DriveState) → Takes Q from steps d → Takes Q from (steps + 1) d
+  later steps d h = record { all = h.all; few = omega (arith, h.few); near = h.near }
 
-  noted_too : (turns : ℕ) (o : Observation) (d : DriveState) → Takes Q from turns d → Takes Q from turns (after_observation o d)
-  noted_too turns (seen.Read address guards) d h = record { all = h.all; few = h.few; near = h.near }
-  noted_too turns (seen.Write address guards) d h = record { all = h.all; few = h.few; near = h.near }
-  noted_too turns (seen.Rollback n) d h = record { all = h.all; few = h.few; near = h.near }
-  noted_too turns seen.Nothing d h = h
-  noted_too turns (seen.Divide a b guards) d h = h
-  noted_too turns seen.Fail d h = h
+  noted_too : (steps : ℕ) (o : Observation) (d : DriveState) → Takes Q from steps d → Takes Q from steps (after_observation o d)
+  noted_too steps (seen.Read address guards) d h = record { all = h.all; few = h.few; near = h.near }
+  noted_too steps (seen.Write address guards) d h = record { all = h.all; few = h.few; near = h.near }
+  noted_too steps (seen.Rollback n) d h = record { all = h.all; few = h.few; near = h.near }
+  noted_too steps seen.Nothing d h = h
+  noted_too steps (seen.Divide a b guards) d h = h
+  noted_too steps seen.Fail d h = h
 
-  stepped_too : (turns : ℕ) (d : DriveState) (directive : Directive) (step : Option (State × Observation)) → IsNear directive
-      → directive_step 64 Q d.state directive ≡ step → Takes Q from turns d → Takes Q from (turns + 1) (stepped d directive step)
-  stepped_too turns d directive None near e h = later turns d h
-  stepped_too turns d directive (Some step) near e h =
+  stepped_too : (steps : ℕ) (d : DriveState) (directive : Directive) (step : Option (State × Observation)) → IsNear directive
+      → directive_step 64 Q d.state directive ≡ step → Takes Q from steps d → Takes Q from (steps + 1) (stepped d directive step)
+  stepped_too steps d directive None near e h = later steps d h
+  stepped_too steps d directive (Some step) near e h =
       let longer : length (d.trace ++ directive ∷ []) ≡ length d.trace + 1 = length-append d.trace (directive ∷ []) in
-      noted_too (turns + 1) step.1 _ (record {
+      noted_too (steps + 1) step.1 _ (record {
         all = one_more (directive_step 64 Q) 1 d.trace from d.state step.0 directive step.1 h.all e;
         few = omega (arith, h.few, longer);
         near = All-push IsNear d.trace directive h.near near;
       })
 
-  turned_by : (turns : ℕ) (d : DriveState) (o : Option Directive) → IfSome o IsNear → Takes Q from turns d → Takes Q from (turns + 1) (turn_by Q d o)
-  turned_by turns d None near h = later turns d h
-  turned_by turns d (Some directive) near h = stepped_too turns d directive (directive_step 64 Q d.state directive) near refl h
+  drive_step_by_too : (steps : ℕ) (d : DriveState) (o : Option Directive) → IfSome o IsNear → Takes Q from steps d → Takes Q from (steps + 1) (drive_step_by Q d o)
+  drive_step_by_too steps d None near h = later steps d h
+  drive_step_by_too steps d (Some directive) near h = stepped_too steps d directive (directive_step 64 Q d.state directive) near refl h
 
-  turned : (turns : ℕ) (d : DriveState) → Takes Q from turns d → Takes Q from (turns + 1) (turn Q d)
-  turned turns d =
-      turned_by turns d (chosen Q d.counters d.state)
+  drive_step_too : (steps : ℕ) (d : DriveState) → Takes Q from steps d → Takes Q from (steps + 1) (drive_step Q d)
+  drive_step_too steps d =
+      drive_step_by_too steps d (chosen Q d.counters d.state)
       (first_near (is_enabled 64 Q d.state) (λ n. shows_read (directive_step 64 Q d.state (Exec n))) (guessed d.counters d.state))
 
-  more_turns : (turns more : ℕ) (d : DriveState) → Takes Q from turns d → Takes Q from (turns + more) d
-  more_turns turns more d h = record { all = h.all; few = omega (arith, h.few); near = h.near }
+  more_steps : (steps more : ℕ) (d : DriveState) → Takes Q from steps d → Takes Q from (steps + more) d
+  more_steps steps more d h = record { all = h.all; few = omega (arith, h.few); near = h.near }
 
-  unless_too : (turns : ℕ) (end : Option End) (next d : DriveState) → Takes Q from turns next → Takes Q from turns d → Takes Q from turns (unless_ended end next d)
-  unless_too turns None next d n h = n
-  unless_too turns (Some end) next d n h = h
+  unless_too : (steps : ℕ) (end : Option End) (next d : DriveState) → Takes Q from steps next → Takes Q from steps d → Takes Q from steps (unless_ended end next d)
+  unless_too steps None next d n h = n
+  unless_too steps (Some end) next d n h = h
 
-  driven_too : (most turns : ℕ) (d : DriveState) → Takes Q from turns d → Takes Q from (turns + most) (driven Q most d)
-  driven_too zero turns d h = more_turns turns 0 d h
-  driven_too (suc most) turns d h =
-      let same : (turns + 1) + most ≡ turns + suc most = omega arith in
-      unless_too (turns + suc most) (end_in d.state) (driven Q most (turn Q d)) d
-      (subst (λ n. Takes Q from n (driven Q most (turn Q d))) same (driven_too most (turns + 1) (turn Q d) (turned turns d h)))
-      (more_turns turns (suc most) d h)
+  driven_too : (most steps : ℕ) (d : DriveState) → Takes Q from steps d → Takes Q from (steps + most) (driven Q most d)
+  driven_too zero steps d h = more_steps steps 0 d h
+  driven_too (suc most) steps d h =
+      let same : (steps + 1) + most ≡ steps + suc most = omega arith in
+      unless_too (steps + suc most) (end_in d.state) (driven Q most (drive_step Q d)) d
+      (subst (λ n. Takes Q from n (driven Q most (drive_step Q d))) same (driven_too most (steps + 1) (drive_step Q d) (drive_step_too steps d h)))
+      (more_steps steps (suc most) d h)
 
 pub each_taken : (Q : Program) → IsEachTaken Q
 each_taken Q function start most =

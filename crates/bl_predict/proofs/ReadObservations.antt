@@ -6,7 +6,7 @@ use Rattle.bl_ops.specs.OperatorTable.{is_division}
 use Rattle.bl_ops.specs.declared.op.Op.{Op}
 use Rattle.bl_cmd.specs.declared.definitions.ProgramParts.{ProgramParts as Program}
 use Rattle.bl_rob.specs.CallResults.{IsEntryKind, is_enabled, is_some, kind_of}
-use Rattle.bl_rob.specs.Machines.{State, assigns, loads, stores, frees, judges, agree, truth, has_store, has_guard, act, acted, directive_step, exec_entry}
+use Rattle.bl_rob.specs.Machines.{State, assigns, loads, stores, frees, judges, agree, truth, has_store, has_guard, acted, directive_step, exec_entry}
 use Rattle.bl_rob.specs.declared.directive.Directive.TheVariants.{Exec}
 use Rattle.bl_rob.specs.declared.directive.Kind.{Kind}
 use Rattle.bl_rob.specs.declared.directive.Kind.TheVariants as kind
@@ -70,9 +70,6 @@ told None wanted enabled = Absent
 told (Some x) wanted enabled = by_kind x.1 wanted enabled
 
 module _ (Q : Program) (n : ℕ) (s : State) where
-  abbrev does : Entry → Act
-  does x = act Q s.registers s.space (take n s.buffer) x.work
-
   pub reads_alone : (p : ℕ) (e : Work) → shows_read (exec_entry Q n s (Some (entry_at p e))) ≡ (if is_load (kind_of e) then is_some (exec_entry Q n s (Some (entry_at p e))) else false)
   reads_alone p Nop = refl
   reads_alone p (Assign protect op to a b c) = assigns_mute n s (entry_at p (Assign protect op to a b c)) _ protect op to _ _ _

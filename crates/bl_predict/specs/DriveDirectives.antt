@@ -15,7 +15,7 @@ IsNear Fetch = Unit {0}
 IsNear (Predict predicted) = Unit {0}
 IsNear Retire = Unit {0}
 
--- each directive that was chosen is enabled; together they lead from the opening to the machine's state; and there is at most one a turn
+-- each directive that was chosen is enabled; together they lead from the opening to the machine's state; and there is at most one a step
 pub record IsTaken (program : Program) (function : ℕ) (start : Start) (most : ℕ) (d : DriveState) : Type 0 where
   pub enabled : (observed 64 program function start d.trace).refused ≡ None
   pub leads : reached 64 program function start d.trace ≡ d.state

@@ -88,7 +88,7 @@ abbrev pub chosen : Program → List ℕ → State → Option Directive
 chosen program counters s =
     first_of (is_enabled 64 program s) (λ n. shows_read (directive_step 64 program s (Exec n))) (guessed counters s) 64
 
--- ---- a turn
+-- ---- a step of a drive
 
 -- the counter of a guard's position behind its execution: up where the condition isn't 0, else down
 abbrev pub counted : Bool → ℕ → ℕ
@@ -165,12 +165,12 @@ stepped d directive None = d
 stepped d directive (Some step) =
     after_observation step.1 (record d { state = step.0; counters = taught d.counters d.state directive step.1; trace = d.trace ++ directive ∷ [] })
 
-abbrev pub turn_by : Program → DriveState → Option Directive → DriveState
-turn_by program d None = d
-turn_by program d (Some directive) = stepped d directive (directive_step 64 program d.state directive)
+abbrev pub drive_step_by : Program → DriveState → Option Directive → DriveState
+drive_step_by program d None = d
+drive_step_by program d (Some directive) = stepped d directive (directive_step 64 program d.state directive)
 
-abbrev pub turn : Program → DriveState → DriveState
-turn program d = turn_by program d (chosen program d.counters d.state)
+abbrev pub drive_step : Program → DriveState → DriveState
+drive_step program d = drive_step_by program d (chosen program d.counters d.state)
 
 -- ---- the drive
 
@@ -178,10 +178,10 @@ abbrev pub unless_ended : Option End → DriveState → DriveState → DriveStat
 unless_ended None next d = next
 unless_ended (Some end) next d = d
 
--- turns until the machine has ended, at most so many
+-- steps of a drive until the machine has ended, at most so many
 abbrev pub driven : Program → ℕ → DriveState → DriveState
 driven program zero d = d
-driven program (suc most) d = unless_ended (end_in d.state) (driven program most (turn program d)) d
+driven program (suc most) d = unless_ended (end_in d.state) (driven program most (drive_step program d)) d
 
 -- what the execution of an entry would be: where it is enabled, and where it is observed as a read
 abbrev pub execution_of : Bool → Bool → Execution
@@ -216,13 +216,13 @@ pub record HasRoom (d : DriveState) : Type 0 where
   pub hits : d.hits < 2 ^ 64 - 1
   pub misses : d.misses < 2 ^ 64 - 1
 
--- the counts are at most the turns
-pub record AreFew (turns : ℕ) (d : DriveState) : Type 0 where
-  pub rollbacks : d.rollbacks ≤ turns
-  pub hits : d.hits ≤ turns
-  pub misses : d.misses ≤ turns
+-- the counts are at most the steps
+pub record AreFew (steps : ℕ) (d : DriveState) : Type 0 where
+  pub rollbacks : d.rollbacks ≤ steps
+  pub hits : d.hits ≤ steps
+  pub misses : d.misses ≤ steps
 
--- what a drive answers: its trace, its counts and its cache; and the outcome, where the machine has ended, else that the turns were spent
+-- what a drive answers: its trace, its counts and its cache; and the outcome, where the machine has ended, else that the steps were spent
 pub record IsDriven (program : Program) (d : DriveState) (driven : Driven) : Type 0 where
   pub trace : driven.trace ≡ d.trace
   pub rollbacks : driven.rollbacks ≡ d.rollbacks

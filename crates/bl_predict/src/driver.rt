@@ -3,7 +3,7 @@ ghost use Rattle.std.specs.Prelude.{◌≡◌, ◌<◌, ◌^◌, ◌-◌, IfOk, 
 ghost use Rattle.bl_cmd.specs.Outcomes.{IsStart};
 ghost use Rattle.bl_rob.specs.CallResults.{shown};
 ghost use Rattle.bl_rob.specs.Machines.{directive_step};
-ghost use Rattle.bl_predict.specs.Drives.{HasRoom, IsDriven, begun, counted, driven, drive_state, guard_of, is_rollback, judged, moved, after_observation, stepped, touched, turn};
+ghost use Rattle.bl_predict.specs.Drives.{HasRoom, IsDriven, begun, counted, driven, drive_state, guard_of, is_rollback, judged, moved, after_observation, drive_step, stepped, touched};
 
 use crate::cache::Cache;
 use crate::choice::choose;
@@ -25,7 +25,7 @@ pub struct Driven {
     pub misses: u64,
     /// The cache behind the last access.
     pub cache: Cache<64, 8>,
-    /// The outcome; Spent where the turns didn't end the machine.
+    /// The outcome; Spent where the steps didn't end the machine.
     pub run: Run,
 }
 
@@ -132,13 +132,13 @@ impl<'p> Driver<'p> {
         self.note(observation)
     }
 
-    /// One turn.
-    fn turn(&mut self, alloc: Global) -> Result<(), NoMemory>
+    /// One step of the drive.
+    fn step(&mut self, alloc: Global) -> Result<(), NoMemory>
         requires room { HasRoom (drive_state self.old) }
         requires length { length self.old.counters.items ≡ 1024 }
         ensures same { self.new.rob.program ≡ self.old.rob.program }
         ensures length { length self.new.counters.items ≡ 1024 }
-        ensures turn { OnOk result (drive_state self.new ≡ turn self.old.rob.program (drive_state self.old)) }
+        ensures drive_step { OnOk result (drive_state self.new ≡ drive_step self.old.rob.program (drive_state self.old)) }
     {
         match choose(&self.counters, &self.rob) {
             Some(directive) => self.take(alloc, directive),
@@ -147,7 +147,7 @@ impl<'p> Driver<'p> {
     }
 }
 
-/// So many counters before the first turn.
+/// So many counters before the first step.
 fn counters(alloc: Global, count: usize) -> Result<Vec<u8>, NoMemory>
     ensures { IfOk result (λ counters. counters.items ≡ replicate count 1) }
 {
@@ -158,7 +158,7 @@ fn counters(alloc: Global, count: usize) -> Result<Vec<u8>, NoMemory>
     Ok(counters)
 }
 
-/// Before the first turn.
+/// Before the first step.
 fn begin<'p>(
     alloc: Global,
     p: &'p WellFormed,
@@ -181,8 +181,8 @@ fn begin<'p>(
     })
 }
 
-/// Drives a function from a start until the machine has ended, for at most so many turns: directives are chosen by a predictor with counters
-/// and by what is enabled, and each read and write is an access to a cache. Linear in the program, the start and the turns.
+/// Drives a function from a start until the machine has ended, for at most so many steps: directives are chosen by a predictor with counters
+/// and by what is enabled, and each read and write is an access to a cache. Linear in the program, the start and the steps.
 pub fn drive(
     alloc: Global,
     p: &WellFormed,
@@ -194,10 +194,10 @@ pub fn drive(
     ensures { IfOk result (IsDriven p.now (driven p.now most (begun p.now function start.now))) }
 {
     let mut driver = begin(alloc, p, function, start)?;
-    let mut turns = 0;
-    while turns < most && driver.rob.finished().is_none() {
-        driver.turn(alloc)?;
-        turns += 1;
+    let mut steps = 0;
+    while steps < most && driver.rob.finished().is_none() {
+        driver.step(alloc)?;
+        steps += 1;
     }
     answer(alloc, driver)
 }

@@ -29,12 +29,12 @@ pub fn drives_alike()
 {}
 
 /// While the machine hasn't ended, one of the four kinds of directive is enabled: a drive chooses one, and that one is enabled.
-pub fn a_turn_is_enabled()
+pub fn a_drive_step_is_enabled()
     ensures { (program : ProgramParts) → IsProgram program → IsWellFormed program → (s : State) → IsReached 64 program s → end_in s ≡ None
         → (counters : List ℕ) → IsSomeAnd (chosen program counters s) (λ d. is_enabled 64 program s d ≡ true) }
 {}
 
-/// What a drive chooses is enabled: the directives of its trace, at most one a turn, are all taken by a machine from the opening on, and lead it
+/// What a drive chooses is enabled: the directives of its trace, at most one a step, are all taken by a machine from the opening on, and lead it
 /// to where the drive has come; and each entry that is executed is one of 64.
 #[tactic(auto, using(crate::proofs::EnabledChoices::each_taken))]
 pub fn what_is_chosen_is_enabled()

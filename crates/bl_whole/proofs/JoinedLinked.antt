@@ -195,9 +195,6 @@ module _ (client library : Tree) (iface : Iface) (linked : IsLinked client) (oth
   abbrev theirs : Names
   theirs = library_names client
 
-  globals_long : length W.globals ≡ length client.globals + length library.globals
-  globals_long = length-append client.globals library.globals
-
   memories_long : length W.memories ≡ length client.memories + length library.memories
   memories_long = length-append client.memories library.memories
 

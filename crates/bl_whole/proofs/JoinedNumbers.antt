@@ -85,18 +85,6 @@ module _ (client library : Tree) (iface : Iface) (linked : IsLinked client) (oth
   abbrev ours : Names
   ours = client_names iface client library
 
-  abbrev theirs : Names
-  theirs = library_names client
-
-  abbrev N : Renaming
-  N = client_numbers iface P Q
-
-  abbrev M : Renaming
-  M = library_numbers P Q
-
-  abbrev A : ℕ
-  A = length client.functions
-
   -- ---- where functions begin
 
   our_first : (f : ℕ) → f ≤ length client.functions → (shape W f).first ≡ up (statics_of Q) (shape client f).first

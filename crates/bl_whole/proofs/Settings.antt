@@ -58,9 +58,6 @@ module _ (s : Setting) where
 
   -- ---- points and targets
 
-  abbrev pub stack_to : List Operand → List Operand
-  stack_to stack = moved_stack s.numbers stack
-
   abbrev pub point_to : Point → Point
   point_to p = point (up s.commands p.position) (moved_stack s.numbers p.stack) (up s.vars p.next)
 

@@ -2,16 +2,19 @@
 use Rattle.std.proofs.Common.{◌≡◌, ◌+◌, ◌∙◌, ap, sym, ℕ, ◌^◌, ◌<◌, ◌≤◌, nat_le, nat_lt, length, Bool, ◌&&◌, ◌||◌, not, true, false, cond, List, [], ◌∷◌, ◌++◌, drop, map, Option, Some, None, refl, subst, arith}
 use Rattle.std.specs.Prelude.{⊤, Decides, IfSome, codes, option_and_then}
 use Rattle.std.specs.List.{list_any}
+use Rattle.std.specs.Borrow.{Bor}
 use Rattle.std.specs.Option.{option_map}
 use Rattle.std.specs.Str.{bytes_eq}
 use Rattle.std.proofs.lemmas.Bool.{and_parts, cond-false, eqb-true, leb-true, ltb-true, false_from_ne_true, not-false, true≢false}
 use Rattle.std.proofs.lemmas.Bool.Decides.{not_from_Decides}
 use Rattle.std.proofs.lemmas.Slice.Eq.{bytes_eq-Decides}
+use Rattle.clap.specs.Walk.{texts}
 use Rattle.bl_base.specs.Quantity.{limit_of}
 use Rattle.bl_base.specs.declared.quantity.Quantity.TheVariants as quantity
 use Rattle.bl_text.specs.Names.{AreNamedApart, module_name}
-use Rattle.bl_words.specs.Requests.{AreInRange, AreTurnsInRange, Command, GenRequest, HardenRequest, InterpRequest, IsGenInRange, Parts, PredictRequest, Request, RunRequest, are_distinct, are_files_unlike, asked_among, command_of, commands, file_named, files_in, forward, gen, gen_of, harden, harden_of, interp, interp_of, join, join_of, kept, lower, lower_of, modules_in, modules_of, number_of_steps, part, part_of, parts_behind, parts_by, parts_of, predict, predict_of, request_of, run, run_of, seed_of, size_of, spec, spec_of, steps_of, turns_of, twin, twin_of, value_of, verify, verify_of, with_counts, BeginsWithDash, IsOption, IsTakenApart, no_words, options_end, argument, value_in_next_word, value_in_same_word, OptionName, Steps, Counts, Reading, ends, asks, gives, strange, plain, arguments_alone, begins_with_dash, has_value_of, is_option, options, reading_among, reading_of, with_argument, with_value, word_of}
+use Rattle.bl_words.specs.Requests.{AreInRange, AreTurnsInRange, Command, GenRequest, HardenRequest, InterpRequest, IsGenInRange, Parts, PredictRequest, Request, RunRequest, are_distinct, are_files_unlike, asked_among, command_of, commands, file_named, forward, gen, gen_of, harden, harden_of, interp, interp_of, is_none_of, join, join_of, kept, lower, lower_of, modules_in, modules_of, number_of_steps, part, part_of, parts_behind, parts_by, parts_of, predict, predict_of, request_of, run, run_of, seed_of, size_of, spec, spec_of, steps_of, turns_of, twin, twin_of, value_of, verify, verify_of, with_counts, BeginsWithDash, IsOption, IsTakenApart, no_words, options_end, argument, value_in_next_word, value_in_same_word, OptionName, Steps, Counts, Reading, ends, asks, gives, strange, plain, arguments_alone, begins_with_dash, has_value_of, is_option, options, reading_among, reading_of, with_argument, with_value, word_of}
 use Rattle.bl_text.specs.Digits.{decimal_below}
+use Rattle.bl_words.specs.Words.{text_in}
 use Rattle.bl_words.proofs.WordKinds.{value_is}
 use Rattle.bl_words.proofs.ModuleWords.{named_apart}
 use Rattle.bl_text.proofs.Decimals.{below_limit}
@@ -324,20 +327,33 @@ kept_holds P request h =
 holds_of : (P : Request → Type 0) → ((request : Request) → KeepsRules request → IfSome (kept request) P) → (words : List (List ℕ)) (request : Request) → request_of words ≡ Some request → P request
 holds_of P h words request e = subst (λ asked. IfSome asked P) e (of_words P h words)
 
--- the first two of distinct words differ
-unlike_first : (first second : List ℕ) (others : List (List ℕ)) → are_distinct (first ∷ second ∷ others) ≡ true → bytes_eq first second ≡ false
-unlike_first first second others e =
-    false_from_ne_true (bytes_eq first second)
-    (λ same. true≢false (sym (and_parts (not (list_any (bytes_eq first) (second ∷ others))) (are_distinct (second ∷ others)) e).0 ∙ ap not (any_first same)))
+-- a file is none of some others and of the one that may be named, where it is none of the first and not that one
+pub none_of : (file : List ℕ) (others : List (Bor (List ℕ))) (named : Option (Bor (List ℕ)))
+    → is_none_of file (texts others ++ file_named (text_in named))
+    ≡ cond (list_any (λ (other : Bor (List ℕ)). bytes_eq other.now file) others) false (is_none_of file (file_named (text_in named)))
+none_of file [] named = refl
+none_of file (other ∷ others) named = by (bytes_eq other.now file) (none_of file others named)
   where
-    any_first : bytes_eq first second ≡ true → list_any (bytes_eq first) (second ∷ others) ≡ true
+    by : (b : Bool) → is_none_of file (texts others ++ file_named (text_in named))
+        ≡ cond (list_any (λ (other : Bor (List ℕ)). bytes_eq other.now file) others) false (is_none_of file (file_named (text_in named)))
+        → not (b || list_any (λ other. bytes_eq other file) (texts others ++ file_named (text_in named)))
+        ≡ cond (b || list_any (λ (other : Bor (List ℕ)). bytes_eq other.now file) others) false (is_none_of file (file_named (text_in named)))
+    by true rest = refl
+    by false rest = rest
+
+-- a file that is none of some isn't the first of them
+unlike_first : (file first : List ℕ) (others : List (List ℕ)) → is_none_of file (first ∷ others) ≡ true → bytes_eq first file ≡ false
+unlike_first file first others none = false_from_ne_true (bytes_eq first file) (λ same. true≢false (sym none ∙ ap not (any_first same)))
+  where
+    any_first : bytes_eq first file ≡ true → list_any (λ other. bytes_eq other file) (first ∷ others) ≡ true
     any_first same = rw same refl
 
 -- the files that a `harden` keeps differ
 pub request_differs : (words : List (List ℕ)) (request : HardenRequest) → request_of words ≡ Some (harden request) → bytes_eq request.image request.certificate ≡ false
 request_differs words request e =
-    let distinct = holds_of (λ request. are_files_unlike request ≡ true) (λ request _. kept_holds _ request (λ differ apart. differ)) words (harden request) e in
-    unlike_first request.image request.certificate (file_named request.counts) distinct
+    let counts = file_named request.counts in
+    let unlike = holds_of (λ request. are_files_unlike request ≡ true) (λ request _. kept_holds _ request (λ differ apart. differ)) words (harden request) e in
+    unlike_first request.certificate request.image counts (and_parts (is_none_of request.certificate (request.image ∷ counts)) (is_none_of request.image counts) unlike).0
 
 -- no two modules of a request have one name
 pub names_apart : (words : List (List ℕ)) (request : Request) → request_of words ≡ Some request → AreNamedApart (modules_in request)

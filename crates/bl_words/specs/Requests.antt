@@ -115,14 +115,6 @@ abbrev pub file_named : Option (List ℕ) → List (List ℕ)
 file_named None = []
 file_named (Some file) = file ∷ []
 
--- the files of a request of which no two may be one
-abbrev pub files_in : Request → List (List ℕ)
-files_in (harden request) = request.image ∷ request.certificate ∷ file_named request.counts
-files_in (run request) = request.image ∷ file_named request.counts
-files_in (verify request) = request.image ∷ request.certificate ∷ []
-files_in (part request) = request.image ∷ request.iface ∷ []
-files_in _ = []
-
 -- a word that begins with `-`
 pub record BeginsWithDash (word : List ℕ) : Type 0 where
   pub rest : List ℕ
@@ -297,12 +289,22 @@ abbrev pub are_distinct : List (List ℕ) → Bool
 are_distinct [] = true
 are_distinct (name ∷ names) = not (list_any (bytes_eq name) names) && are_distinct names
 
--- whether no two files of a request that must differ are one: the trace file of a `predict` is neither of the files that are read, which
--- may be one, and the image of a `join` is none of those that are read, which may be one too
+-- whether a file is none of the others
+abbrev pub is_none_of : List ℕ → List (List ℕ) → Bool
+is_none_of file others = not (list_any (λ other. bytes_eq other file) others)
+
+-- whether no two files of a request that must differ are one. What it writes is none of these: of a `harden`, what it writes beside, and the count
+-- file; of a `run`, the image; of a `predict` and of a `join`, what it reads, which may be one; of a `part`, the interface. And the image of a
+-- `verify`, which writes nothing, isn't the certificate
 abbrev pub are_files_unlike : Request → Bool
-are_files_unlike (predict request) = are_distinct (request.image ∷ request.trace ∷ []) && are_distinct (request.trace ∷ request.start ∷ [])
-are_files_unlike (join request) = not (list_any (bytes_eq request.image) (request.iface ∷ request.client ∷ request.library ∷ []))
-are_files_unlike request = are_distinct (files_in request)
+are_files_unlike (harden request) =
+    is_none_of request.certificate (request.image ∷ file_named request.counts) && is_none_of request.image (file_named request.counts)
+are_files_unlike (run request) = is_none_of request.image (file_named request.counts)
+are_files_unlike (verify request) = is_none_of request.image (request.certificate ∷ [])
+are_files_unlike (predict request) = is_none_of request.trace (request.image ∷ request.start ∷ [])
+are_files_unlike (part request) = is_none_of request.image (request.iface ∷ [])
+are_files_unlike (join request) = is_none_of request.image (request.iface ∷ request.client ∷ request.library ∷ [])
+are_files_unlike _ = true
 
 -- the modules of a request: at least one
 abbrev pub modules_of : List (List ℕ) → Option (List (List ℕ))

@@ -1,11 +1,9 @@
 //! From the words of a call to what they ask for.
-ghost use Rattle.std.specs.Prelude.{◌≡◌, IfOk, map, string_bytes};
-ghost use Rattle.std.specs.List.{list_any};
+ghost use Rattle.std.specs.Prelude.{◌≡◌, ◌++◌, IfOk, map, string_bytes};
 ghost use Rattle.std.specs.Option.{option_map};
-ghost use Rattle.std.specs.Str.{bytes_eq};
 ghost use Rattle.clap.specs.Walk.{texts};
-ghost use Rattle.bl_words.specs.Requests.{are_distinct, are_files_unlike, asked_among, command_of, commands, file_named, files_in, forward, gen, gen_of, harden, harden_of, interp, interp_of, join, join_of, kept, lower, lower_of, modules_in, part, part_of, predict, predict_of, request_of, run, run_of, spec, spec_of, twin, twin_of, verify, verify_of, with_counts};
-ghost use Rattle.bl_words.specs.Words.{harden_in, join_in, parts_in, predict_in, request_in, text_in};
+ghost use Rattle.bl_words.specs.Requests.{are_files_unlike, asked_among, command_of, commands, file_named, forward, gen, gen_of, harden, harden_of, interp, interp_of, is_none_of, join, join_of, kept, lower, lower_of, modules_in, part, part_of, predict, predict_of, request_of, run, run_of, spec, spec_of, twin, twin_of, verify, verify_of, with_counts};
+ghost use Rattle.bl_words.specs.Words.{parts_in, request_in, text_in};
 
 use crate::command_line::{Unmatched, matches_of};
 use crate::modules::{are_named_apart, modules_of};
@@ -107,59 +105,33 @@ fn are_files_unlike(request: &Request) -> bool
     ensures { result ≡ are_files_unlike (request_in request.now) }
 {
     match request {
-        Request::Harden(words) => are_kept_apart(words),
-        Request::Run(words) => !is_named(words.counts, words.image),
-        Request::Verify(words) => words.image != words.certificate,
-        Request::Predict(words) => is_trace_apart(words),
-        Request::Part(words) => words.image != words.iface,
-        Request::Join(words) => is_image_apart(words),
+        Request::Harden(words) => {
+            is_none_of(words.certificate, &[words.image], words.counts)
+                && is_none_of(words.image, &[], words.counts)
+        }
+        Request::Run(words) => is_none_of(words.image, &[], words.counts),
+        Request::Verify(words) => is_none_of(words.image, &[words.certificate], None),
+        Request::Predict(words) => is_none_of(words.trace, &[words.image, words.start], None),
+        Request::Part(words) => is_none_of(words.image, &[words.iface], None),
+        Request::Join(words) => is_none_of(
+            words.image,
+            &[words.iface, words.client, words.library],
+            None,
+        ),
         _ => true,
     }
 }
 
-/// Whether the image, the certificate and the count file of a `harden` are each a file of its own.
-fn are_kept_apart(words: &HardenWords) -> bool
-    ensures { result ≡ are_distinct (files_in (harden (harden_in words.now))) }
+/// Whether a file is none of the others, and not the one that may be named beside them.
+fn is_none_of(file: &str, others: &[&str], named: Option<&str>) -> bool
+    ensures { result ≡ is_none_of file.now (texts others.now ++ file_named (text_in named.entry)) }
 {
-    if words.image == words.certificate {
+    if others.contains(&file) {
         return false;
     }
-    if is_named(words.counts, words.image) {
-        return false;
-    }
-    !is_named(words.counts, words.certificate)
-}
-
-/// Whether the trace file of a `predict` is neither of the files that are read.
-fn is_trace_apart(words: &PredictWords) -> bool
-    ensures { result ≡ are_files_unlike (predict (predict_in words.now)) }
-{
-    if words.image == words.trace {
-        return false;
-    }
-    words.trace != words.start
-}
-
-/// Whether the image of a `join` is none of the files that are read.
-fn is_image_apart(words: &JoinWords) -> bool
-    ensures { result ≡ are_files_unlike (join (join_in words.now)) }
-{
-    if words.image == words.iface {
-        return false;
-    }
-    if words.image == words.client {
-        return false;
-    }
-    words.image != words.library
-}
-
-/// Whether a file is named, by this word.
-fn is_named(file: Option<&str>, word: &str) -> bool
-    ensures { result ≡ list_any (bytes_eq word.now) (file_named (text_in file.entry)) }
-{
-    match file {
-        Some(file) => file == word,
-        None => false,
+    match named {
+        Some(other) => other != file,
+        None => true,
     }
 }
 

@@ -7,7 +7,7 @@ use bl_base::{List, Role};
 /// the function behind it that tests the command's parts. In the definitions: a record of the request, a variant of `Request`,
 /// what it asks for and its row in `commands` (Requests.antt), and `request_in` (Words.antt). In the lemmas: a field of
 /// `rows_keep` (WordsLemmas.antt). One with modules, with files that must differ, or with a count file stands in
-/// `modules_in`, `are_files_unlike` or `with_counts` of `read` too, and in `modules_in`, `files_in` or `with_counts`.
+/// `modules_in`, `are_files_unlike` or `with_counts` too, of `read` and of Requests.antt.
 #[derive(Drop)]
 pub enum Request<'a> {
     /// To write the image and the certificate of modules.

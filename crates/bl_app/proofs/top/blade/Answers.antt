@@ -8,27 +8,22 @@ use Rattle.bl_app.proofs.HardenEffectLemmas.{harden_leaves}
 use Rattle.bl_job.proofs.CallEffectLemmas.{leaves}
 use Rattle.bl_app.proofs.top.blade.Goals as goal
 
-pub returns-clause-ends : goal.returns-clause-ends
-returns-clause-ends g c = record { status = c.run.result; is_code = c.code.ensures; holds = c.run.ensures }
-
-pub returns-clause-causes : goal.returns-clause-causes
-returns-clause-causes g c = record { status = c.run.result; is_code = c.code.ensures; holds = causes job_of laws_of _ _ _ _ c.run.ensures }
-
-pub returns-clause-leaves : goal.returns-clause-leaves
-returns-clause-leaves g c = leaves job_of (request_of (map string_bytes c.args.words.now)) _ _ c.run.result c.run.ensures
-
-pub returns-clause-harden_leaves : goal.returns-clause-harden_leaves
-returns-clause-harden_leaves g c = λ request asks.
-    harden_leaves request _ _ _ asks (leaves job_of (request_of (map string_bytes c.args.words.now)) _ _ c.run.result c.run.ensures)
-
-pub returns-clause-hardens : goal.returns-clause-hardens
-returns-clause-hardens g c = λ request asks zero.
-    hardens (map string_bytes c.args.words.now) request _ _ c.run.result asks
-    (said_of (request_of (map string_bytes c.args.words.now)) (harden request) _ _ c.run.result asks (was_done job_of laws_of _ _ _ _ c.run.ensures (done_by_zero c.run.result (sym c.code.ensures ∙ zero))))
-
-pub returns-clause-says : goal.returns-clause-says
-returns-clause-says g c = λ request asks. record {
-  status = c.run.result;
-  is_code = c.code.ensures;
-  holds = λ deed. said_of (request_of (map string_bytes c.args.words.now)) request _ _ c.run.result asks (was_done job_of laws_of _ _ _ _ c.run.ensures deed);
-}
+pub returns : goal.returns
+returns g c =
+    let words = map string_bytes c.args.words.now in
+    let asked = request_of words in
+    let status = c.run.result in
+    let left = leaves job_of asked _ _ status c.run.ensures in record {
+      ends = record { status = status; is_code = c.code.ensures; holds = c.run.ensures };
+      causes = record { status = status; is_code = c.code.ensures; holds = causes job_of laws_of _ _ _ _ c.run.ensures };
+      leaves = left;
+      harden_leaves = λ request asks. harden_leaves request _ _ _ asks left;
+      hardens = λ request asks zero.
+          hardens words request _ _ status asks
+          (said_of asked (harden request) _ _ status asks (was_done job_of laws_of _ _ _ _ c.run.ensures (done_by_zero status (sym c.code.ensures ∙ zero))));
+      says = λ request asks. record {
+        status = status;
+        is_code = c.code.ensures;
+        holds = λ deed. said_of asked request _ _ status asks (was_done job_of laws_of _ _ _ _ c.run.ensures deed);
+      };
+    }

@@ -15,5 +15,5 @@ first_of-requires c = subst (AllPairs Precedes) (sym c.as_slice-2.ensures) c.req
 pub returns : goal.returns
 returns c =
     let test : ℕ → Bool = sorted.contains nat_cmp c.in_ok-given.given in
-    first_given c.args.asked.now c.args.p.now c.args.graph.now test c.first_of.result c.requires (λ x. c.in_ok-given.ensures x ∙ ap (list_any (nat_eq x)) c.as_slice.ensures)
+    first_given c.args.asked.now c.args.program.now c.args.graph.now test c.first_of.result c.requires (λ x. c.in_ok-given.ensures x ∙ ap (list_any (nat_eq x)) c.as_slice.ensures)
     (subst (λ (l : List Use). MatchOption c.first_of.result (NoUse test l) (λ position. IsFirstUse test l position.0)) c.as_slice-2.ensures c.first_of.ensures)

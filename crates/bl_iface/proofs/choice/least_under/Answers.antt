@@ -6,32 +6,23 @@ use Rattle.bl_cut.specs.Least.{LeastUnder}
 use Rattle.bl_transient.specs.Transient.{Asked}
 use Rattle.bl_transient.specs.Verdicts.{asked_of}
 use Rattle.bl_iface.specs.RoleTests.{IsFirstGiven, IsGiven}
-use Rattle.bl_iface.proofs.SideLemmas.{firm_within, hot_within, lists_apart, same_asked}
+use Rattle.bl_iface.proofs.SideLemmas.{same_asked}
 use Rattle.bl_iface.proofs.choice.least_under.Goals as goal
 
 pub returns-in-Some-clause-refused : goal.returns-in-Some-clause-refused
 returns-in-Some-clause-refused c =
-    subst (λ (a : Asked). IsFirstGiven a c.args.p.now c.in-Some.position.0) (same_asked c.args.role c.args.i.now c.args.p.now c.in_ok-asked.asked c.in_ok-asked.ensures)
-    (subst (λ o. MatchOption o ((position : ℕ) → IsGiven (asked_of c.in_ok-asked.asked) c.args.p.now position → ⊥) (λ position. IsFirstGiven (asked_of c.in_ok-asked.asked) c.args.p.now position.0))
+    subst (λ (a : Asked). IsFirstGiven a c.args.program.now c.in-Some.position.0) (same_asked c.args.role c.args.iface.now c.args.program.now c.in_ok-asked.asked c.in_ok-asked.ensures.asked)
+    (subst (λ o. MatchOption o ((position : ℕ) → IsGiven (asked_of c.in_ok-asked.asked) c.args.program.now position → ⊥) (λ position. IsFirstGiven (asked_of c.in_ok-asked.asked) c.args.program.now position.0))
     c.in-Some.is c.in_ok-first.ensures)
-
-pub least_under_of-requires-clause-hot : goal.least_under_of-requires-clause-hot
-least_under_of-requires-clause-hot c = hot_within c.args.role c.args.i.now c.args.p.now c.in_ok-asked.asked c.in_ok-asked.ensures c.program.ensures.rules c.requires
-
-pub least_under_of-requires-clause-firm : goal.least_under_of-requires-clause-firm
-least_under_of-requires-clause-firm c = firm_within c.args.role c.args.i.now c.args.p.now c.in_ok-asked.asked c.in_ok-asked.ensures c.program.ensures.rules c.requires
-
-pub least_under_of-requires-clause-apart : goal.least_under_of-requires-clause-apart
-least_under_of-requires-clause-apart c = lists_apart c.args.role c.args.i.now c.args.p.now c.in_ok-asked.asked c.in_ok-asked.ensures c.program.ensures.rules c.requires
 
 pub least_under_of-requires-clause-sinks : goal.least_under_of-requires-clause-sinks
 least_under_of-requires-clause-sinks c =
     let none =
-    subst (λ o. MatchOption o ((position : ℕ) → IsGiven (asked_of c.in_ok-asked.asked) c.args.p.now position → ⊥) (λ position. IsFirstGiven (asked_of c.in_ok-asked.asked) c.args.p.now position.0))
+    subst (λ o. MatchOption o ((position : ℕ) → IsGiven (asked_of c.in_ok-asked.asked) c.args.program.now position → ⊥) (λ position. IsFirstGiven (asked_of c.in_ok-asked.asked) c.args.program.now position.0))
     c.in_default.is c.in_ok-first.ensures in
     λ position x reads h. none position (x, reads, in_asked c.in_ok-asked.asked.hot x h)
 
 pub returns-clause-least : goal.returns-clause-least
 returns-clause-least c =
-    subst (λ (a : Asked). LeastUnder a c.args.p.now (fin.contains c.in_ok-choice.choice.protects))
-    (same_asked c.args.role c.args.i.now c.args.p.now c.in_ok-asked.asked c.in_ok-asked.ensures) c.in_ok-choice.ensures.least
+    subst (λ (a : Asked). LeastUnder a c.args.program.now (fin.contains c.in_ok-choice.choice.protects))
+    (same_asked c.args.role c.args.iface.now c.args.program.now c.in_ok-asked.asked c.in_ok-asked.ensures.asked) c.in_ok-choice.ensures.least

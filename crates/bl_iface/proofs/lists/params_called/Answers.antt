@@ -8,12 +8,12 @@ use Rattle.bl_iface.proofs.lists.params_called.Goals as goal
 use Rattle.bl_iface.proofs.lists.params_called.Goals.{After-as_slice}
 
 stands : (c : After-as_slice)
-    → (c.loop-index.index < length c.args.i.now.functions) × (c.one-item.result ≡ get_or c.args.i.now.functions c.loop-index.index c.one-item.result)
+    → (c.loop-index.index < length c.args.iface.now.functions) × (c.one-item.result ≡ get_or c.args.iface.now.functions c.loop-index.index c.one-item.result)
     × StandsAt c.args.parts.now c.one-item.result (slice_index c.args.targets.now c.loop-index.index) (slice_index c.args.firsts.now (slice_index c.args.targets.now c.loop-index.index))
 stands c =
     let lt = rw c.as_slice-one-items.ensures at c.loop-index-test.true in
     let is = rw c.as_slice-one-items.ensures at c.one-item.is in
-    (lt, is, stands_at c.args.parts.now c.args.i.now c.args.firsts.now c.args.targets.now c.requires.rule c.requires.matches c.requires.firsts c.requires.targets c.loop-index.index c.one-item.result lt is)
+    (lt, is, stands_at c.args.parts.now c.args.iface.now c.args.firsts.now c.args.targets.now c.requires.rule c.requires.matches c.requires.firsts c.requires.targets c.loop-index.index c.one-item.result lt is)
 
 pub push_called-requires : goal.push_called-requires
 push_called-requires c =
@@ -28,5 +28,5 @@ loop-index-preserved c =
     let here = stands (goal.at.loop-index-preserved c).After-as_slice in
     let first = here.2.first_is in
     let place : slice_index c.args.firsts.now f ≡ param c.args.parts.now f 0 = omega arith in
-    called_more c.args.parts.now (λ (one : FnIface). one.params) (λ f. param c.args.parts.now f 0) c.args.flow c.args.i.now.functions c.loop-index.index f c.one-item.result c.loop-index.called c.push_called.new.to here.0 here.1 here.2.named
+    called_more c.args.parts.now (λ (one : FnIface). one.params) (λ f. param c.args.parts.now f 0) c.args.flow c.args.iface.now.functions c.loop-index.index f c.one-item.result c.loop-index.called c.push_called.new.to here.0 here.1 here.2.named
     (rw (c.as_slice.ensures, place) at c.in_ok-push_called.ensures) c.loop-index.invariant

@@ -19,14 +19,14 @@ there c =
 pub returns-then-not-have_same_types : goal.returns-then-not-have_same_types
 returns-then-not-have_same_types c =
     let before = (goal.at.returns-then-not-have_same_types c).After-have_same_types in
-    unlike_here c.args.client.now c.args.library.now c.args.i.now c.args.ours.now c.args.theirs.now c.loop-index.index c.index-as_slice-ours.result c.index-as_slice-theirs.result c.requires.ours c.requires.theirs c.loop-index-test.true (here before) (there before)
+    unlike_here c.args.client.now c.args.library.now c.args.iface.now c.args.ours.now c.args.theirs.now c.loop-index.index c.index-as_slice-ours.result c.index-as_slice-theirs.result c.requires.ours c.requires.theirs c.loop-index-test.true (here before) (there before)
     (λ alike. false≢true (sym c.if-not-have_same_types.true ∙ c.have_same_types.ensures.1 alike)) c.loop-index.invariant
 
 pub loop-index-preserved : goal.loop-index-preserved
 loop-index-preserved c =
     let before = (goal.at.loop-index-preserved c).After-have_same_types in
-    alike_more c.args.client.now c.args.library.now c.args.i.now c.args.ours.now c.args.theirs.now c.loop-index.index c.index-as_slice-ours.result c.index-as_slice-theirs.result c.requires.ours c.requires.theirs c.loop-index-test.true (here before) (there before)
+    alike_more c.args.client.now c.args.library.now c.args.iface.now c.args.ours.now c.args.theirs.now c.loop-index.index c.index-as_slice-ours.result c.index-as_slice-theirs.result c.requires.ours c.requires.theirs c.loop-index-test.true (here before) (there before)
     (c.have_same_types.ensures.0 c.if-not-have_same_types.false) c.loop-index.invariant
 
 pub returns : goal.returns
-returns c = alike_all c.args.client.now c.args.library.now c.args.i.now c.args.ours.now c.loop-index.index c.requires.ours c.loop-index-test.false c.loop-index.invariant
+returns c = alike_all c.args.client.now c.args.library.now c.args.iface.now c.args.ours.now c.loop-index.index c.requires.ours c.loop-index-test.false c.loop-index.invariant

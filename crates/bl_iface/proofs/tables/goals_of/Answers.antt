@@ -29,7 +29,7 @@ loop-left-preserved c =
 pub returns : goal.returns
 returns c =
     let none : c.loop-left.left ≡ 0 = omega arith in
-    subst (LeadsTo c.args.i.now c.args.client.now c.args.library.now) (sym c.of.ensures)
-    (table_leads c.args.client.now c.args.library.now c.args.i.now c.args.ours.now c.args.theirs.now c.loop-left.goals.items c.program.ensures.rules c.requires.ours c.requires.theirs
+    subst (LeadsTo c.args.iface.now c.args.client.now c.args.library.now) (sym c.of.ensures)
+    (table_leads c.args.client.now c.args.library.now c.args.iface.now c.args.ours.now c.args.theirs.now c.loop-left.goals.items c.program.ensures.rules c.requires.ours c.requires.theirs
     c.loop-left.invariant.many
     (subst (λ k. (f : ℕ) → f < length c.args.client.now.functions → goal_in c.loop-left.goals.items f ≡ goal_by (drop k c.args.ours.now) (drop k c.args.theirs.now) f) none c.loop-left.invariant.each))
