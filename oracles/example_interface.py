@@ -195,12 +195,10 @@ def bytes_of(name):
     return '(' + ''.join(f'{byte} ∷ ' for byte in name.encode()) + '[])'
 
 
-def items(head, these, tail=';'):
+def items(head, these):
     """A list behind a head, in lines of at most 150."""
-    if not these:
-        return [f'  {head}[]{tail}']
     lines, line = [], f'  {head}('
-    for word in [f'{one} ∷' for one in these] + [f'[]){tail}']:
+    for word in [f'{one} ∷' for one in these] + ['[]);']:
         if len(line) + len(word) + (not line.endswith('(')) > 150:
             lines.append(line)
             line = ' ' * 6 + word
@@ -252,5 +250,5 @@ if __name__ == '__main__':
         print('\n'.join(definition(name, program)))
     print('abbrev pub iface : Iface\niface = record {')
     print('\n'.join(items('functions = ', [f'(record {{ name = {bytes_of(name)}; params = (flow.{params} ∷ []); results = (flow.{results} ∷ []) }})'
-                                           for name, params, results in IFACE], '')))
+                                           for name, params, results in IFACE])))
     print('}')
