@@ -1,13 +1,16 @@
 #!/usr/bin/env python3
 """Prints the images of the modules that tests lower, and of four that they harden, by the commands that the table of lowering
-gives them, written here by hand.
+gives them, written here by hand. `oracles/traces.py` takes the spelling of images from here.
 
 Commands are listed one a line from position 7 on, with their positions, as `11 load v5 v3` or `16 out 0 v7`. A word `vN` is a
 variable and a number is a constant, a position or an index; the last number of a load is its offset, if any. What stands in a loop ends
 with the word `inside`, and what is protected with `protected`.
-"""
 
-OPERATORS = {"move": 0x00, "outside": 0x01, "eqz": 0x45, "eq": 0x46, "gt_u": 0x4B, "add": 0x6A, "sub": 0x6B}
+usage: python3 oracles/images.py"""
+
+OPERATORS = {"move": 0x00, "outside": 0x01, "eqz": 0x45, "eq": 0x46, "gt_u": 0x4B, "add": 0x6A, "sub": 0x6B, "div_u": 0x6E}
+LOADS = {"load": 0x28, "load64": 0x29, "load8_s": 0x2C, "load8_u": 0x2D, "load64_8_s": 0x30, "load64_8_u": 0x31}
+STORES = {"store": 0x36, "store64": 0x37, "store8": 0x3A, "store64_8": 0x3C}
 
 # What a mark's byte has more for each word.
 MARKS = {"inside": 1, "protected": 8}
@@ -34,10 +37,10 @@ def command(name, words, mark):
     if name == "set":
         to, operator, *operands = words
         return [0, mark, OPERATORS[operator]] + variable(to) + [byte for word in operands for byte in operand(word)]
-    if name == "load":
-        return [1, mark, 0x28, 0] + variable(words[0]) + leb(int(words[2]) if words[2:] else 0) + operand(words[1])
-    if name == "store":
-        return [2, 0x36, 0, 0] + operand(words[0]) + operand(words[1])
+    if name in LOADS:
+        return [1, mark, LOADS[name], 0] + variable(words[0]) + leb(int(words[2]) if words[2:] else 0) + operand(words[1])
+    if name in STORES:
+        return [2, STORES[name], 0, 0] + operand(words[0]) + operand(words[1])
     if name == "test":
         return [3] + operand(words[0]) + leb(int(words[1])) + leb(int(words[2]))
     if name == "jump":
@@ -63,19 +66,24 @@ def commands(text):
     return out, position
 
 
-def image(name, head, text, count):
+def spelled(head, text, count):
+    """The image of version 1 with that head and those commands, which with the traps are so many."""
     body, behind = commands(text)
-    assert behind == count, (name, behind)
-    whole = [0x42, 0x4C, 0x49, 0x4D, 1] + head + body
-    print(name, len(whole))
-    for start in range(0, len(whole), 16):
-        print("    " + ", ".join(f"0x{byte:02X}" for byte in whole[start : start + 16]) + ",")
+    assert behind == count, behind
+    return bytes([0x42, 0x4C, 0x49, 0x4D, 1] + head + body)
+
+
+IMAGES = {}
+
+
+def image(name, head, text, count):
+    IMAGES[name] = spelled(head, text, count)
 
 
 F = [1, 3] + list(b"m/f")
 
 # v0 is the memory's size, v1 the parameter, v2 the result.
-image("TWO_LOADS_IMAGE", [0, 1, 1, 0x80, 2, 0, 0, 1, 1, 0x7F, 0, 1, 0x7F, 7, 10] + F + [0], """
+image("LOWERED_LOADS_IMAGE", [0, 1, 1, 0x80, 2, 0, 0, 1, 1, 0x7F, 0, 1, 0x7F, 7, 10] + F + [0], """
 7 jump 8
 8 set v3 move v1
 9 set v4 outside v3 v0 4
@@ -87,6 +95,30 @@ image("TWO_LOADS_IMAGE", [0, 1, 1, 0x80, 2, 0, 0, 1, 1, 0x7F, 0, 1, 0x7F, 7, 10]
 15 out 0 v7
 16 ret
 """, 17)
+
+# The same, of which the first load is protected.
+image("LOADS_IMAGE", [0, 1, 1, 0x80, 2, 0, 0, 1, 1, 0x7F, 0, 1, 0x7F, 7, 10] + F + [0], """
+7 jump 8
+8 set v3 move v1
+9 set v4 outside v3 v0 4
+10 test v4 3 11
+11 load v5 v3 protected
+12 set v6 outside v5 v0 4
+13 test v6 3 14
+14 load v7 v5
+15 out 0 v7
+16 ret
+""", 17)
+
+# v0 is the parameter, v1 the result; the export is inc/inc.
+image("ADD_ONE_IMAGE", [0, 0, 1, 1, 0x7F, 0, 1, 0x7F, 5, 6, 1, 7] + list(b"inc/inc") + [0], """
+7 jump 8
+8 set v2 move v0
+9 set v3 move 1
+10 set v4 add v2 v3
+11 out 0 v4
+12 ret
+""", 13)
 
 # v0 is the global, v1 the memory's size, v2 and v3 the parameters, v4 the result, v5 the other local.
 ROW = [1, 0, 0, 0, 2, 0, 0, 0, 3, 0, 0, 0, 0, 0, 0, 0]
@@ -142,6 +174,19 @@ image("GROW_AND_STORE_IMAGE", [0, 1, 1, 2, 0, 0, 1, 1, 0x7F, 0, 1, 0x7F, 9, 16] 
 21 out 0 v6
 22 ret
 """, 23)
+
+# v0 is the memory's size, v1 the parameter, v2 the result. No module is lowered to this one: its parameter isn't moved.
+image("GROWTH_IMAGE", [0, 1, 1, 2, 0, 0, 1, 1, 0x7F, 0, 1, 0x7F, 5, 9] + F + [0], """
+7 set v3 sub 2 v0
+8 set v4 gt_u v1 v3
+9 test v4 13 10
+10 set v5 move v0
+11 set v0 add v0 v1
+12 jump 14
+13 set v5 move 4294967295
+14 out 0 v5
+15 ret
+""", 16)
 
 # Function 1 has the result v0; function 2 the parameter v2 and the result v3.
 image("INDIRECT_IMAGE", [0, 0, 3, 0, 0, 0, 2, 0, 1, 0x7F, 2, 4, 1, 0x7F, 0, 1, 0x7F, 7, 13] + F + [2], """
@@ -228,6 +273,25 @@ image("SWAPPING_IMAGE", [0, 0, 1, 3, 0x7F, 0, 0x7F, 0, 0x7F, 0, 2, 0x7F, 0x7F, 1
 30 ret
 """, 31)
 
+# v0 is the parameter, v1 the result; v3 is the loop's parameter, v4 its result.
+image("LOOP_IMAGE", [0, 0, 1, 1, 0x7F, 0, 1, 0x7F, 8, 15] + F + [0], """
+7 jump 8
+8 set v2 move v0
+9 set v3 move v2
+10 jump 11
+11 set v5 move 4294967295 inside
+12 set v6 add v3 v5 inside
+13 set v0 move v6 inside
+14 set v7 move v0 inside
+15 test v7 16 18
+16 set v3 move v6 inside
+17 jump 10
+18 set v4 move v6 inside
+19 jump 20
+20 out 0 v4
+21 ret
+""", 22)
+
 # What is hardened: memories of one page without a maximum, v0 being the memory's size. First with the parameters v1 and v2 and the
 # result v3.
 PAGE = [0, 1, 1, 0x80, 2, 0, 0]
@@ -307,3 +371,9 @@ image("LOOP_WRITES_IMAGE", PAGE + [1, 1, 0x7F, 0, 1, 0x7F, 9, 15] + F + [0], """
 20 out 0 v9
 21 ret
 """, 22)
+
+if __name__ == "__main__":
+    for name, whole in IMAGES.items():
+        print(name, len(whole))
+        for start in range(0, len(whole), 16):
+            print("    " + ", ".join(f"0x{byte:02X}" for byte in whole[start : start + 16]) + ",")

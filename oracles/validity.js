@@ -345,9 +345,9 @@ const around_title = "/// A module with one function: it takes an i32, has a loc
 /// i32, are imported; global 1 is a mutable i64; there is a table and a memory.";
 const bare_title = "/// A module with one function alone, of no parameters, results and locals.";
 
-writeFileSync(`${process.argv[2]}/validate_bodies.rt`, ["//! Bodies that were judged elsewhere, each on a line: in the binary format, without its `end`, and whether the module round it\n//! is valid.\n",
+writeFileSync(`${process.argv[2]}/validate_bodies.rt`, ["//! Bodies that `oracles/validity.js` wrote by node v20.20's answers, each on a line: in the binary format, without its `end`, and whether the module\n//! round it is valid.\n",
   body_table("BODIES", "Bodies with blocks of at most one type", bodies), body_table("SEVERAL", "Bodies with blocks that have parameters or several results", several)].join("\n"));
-writeFileSync(`${process.argv[2]}/validate_modules.rt`, ["//! Modules that were judged elsewhere, by the parts that differ from those of a valid one.\nuse super::validate::{CONSTANT, Case, Change, FUNCTION, Parts, RULE};\nuse bl_validate::Invalid;\nuse bl_wasm::WasmType::{F32, F64, I32, I64};\nuse bl_wasm::{ExportKind, GlobalType, ImportKind, Limits};\n",
+writeFileSync(`${process.argv[2]}/validate_modules.rt`, ["//! Modules that `oracles/validity.js` wrote by node v20.20's answers, by the parts that differ from those of a valid one.\nuse super::validate::{CONSTANT, Case, Change, FUNCTION, Parts, RULE};\nuse bl_validate::Invalid;\nuse bl_wasm::WasmType::{F32, F64, I32, I64};\nuse bl_wasm::{ExportKind, GlobalType, ImportKind, Limits};\n",
   parts_of("AROUND", around_title, base), parts_of("BARE", bare_title, { ...base, ...bare }),
   module_table("TYPES", "Types and functions", type_cases), module_table("CODE", "Code", code_cases), module_table("STORES", "Tables, memories and globals", store_cases),
   module_table("SEGMENTS", "Segments, exports and the start function", segment_cases)].join("\n"));

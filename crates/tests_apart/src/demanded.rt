@@ -1,5 +1,6 @@
 //! Demands and labels of a client and of a library that are joined. What `f` of the library gives, or what it keeps in a global, has to be public;
-//! a client hands it a secret. The verdicts follow from the label rules; the client's function is 1 of the joined program, as in its own.
+//! a client hands it a secret. The verdicts were worked by hand from the label rules: a secret reaches what is demanded, or nothing is secret. The
+//! client's function is 1 of the joined program, as in its own.
 use crate::modules::{HIDES, OWES_GLOBAL, OWES_RESULT, STUB, TELLS};
 use bl_base::NoMemory;
 use bl_outside::{MemoryShelf, MemorySink};

@@ -7,12 +7,7 @@ use bl_outside::{MemoryShelf, MemorySink};
 use std::alloc::Global;
 use std::test::Fail;
 use tests_calls::{are_done, are_no_requests, ends, say, shelf_of};
-
-/// The image of a function of 2,147,483,647 variables that returns at once.
-const DECLARED: [u8; 23] = [
-    0x42, 0x4C, 0x49, 0x4D, 0x01, 0x00, 0x00, 0x01, 0x00, 0x00, 0xFF, 0xFF, 0xFF, 0xFF, 0x07, 0x01,
-    0x01, 0x03, 0x6D, 0x2F, 0x66, 0x00, 0x08,
-];
+use tests_samples::DECLARED_IMAGE;
 
 /// Words of a call, the status that it ends with, and the text.
 struct Said {
@@ -34,7 +29,7 @@ fn files(alloc: Global) -> Result<MemoryShelf, NoMemory> {
             ("a.wasm", &LIB),
             ("b.wasm", &LIB),
             ("c.wasm", &LIB),
-            ("declared", &DECLARED),
+            ("declared", &DECLARED_IMAGE),
             ("start", b"arg 0\n"),
         ],
     )?;

@@ -1,5 +1,5 @@
 //! Calls on one side of an interface, on a program whose Test reads a parameter directly: no program of modules has such a one. What is expected
-//! follows from the two commands, at 7 and 8, by the transient rules.
+//! was worked by hand from the two commands, at 7 and 8, by the transient rules.
 ghost use Rattle.bl_iface.specs.InterfaceFunctions.{Matches};
 
 use bl_base::{NoMemory, Pos, Role};

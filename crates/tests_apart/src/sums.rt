@@ -1,4 +1,4 @@
-//! What a client and a library come to together, where that is too much. The images are spelled by the grammar of images; the sums follow from
+//! What a client and a library come to together, where that is too much. The images are spelled by hand, by the grammar of images; the sums are those of
 //! what they have.
 use bl_base::NoMemory;
 use std::alloc::Global;

@@ -1,10 +1,12 @@
-//! Counted runs, and hardening by counts. The counts are those of the commands that a run executes, followed by hand.
+//! Counted runs, and hardening by counts. The counts are those of the commands that a run executes, followed by hand; a site weighs its count times
+//! 2^21, and 1 more. What is refused follows from the table of statuses in docs/CLI.md, by hand.
 use crate::harden::LOOP_WRITES;
 use bl_base::NoMemory;
 use bl_outside::{MemoryShelf, MemorySink};
 use std::alloc::Global;
 use std::test::Fail;
-use tests_calls::{EMPTY, ends, holds, say, shelf_of, stands, status_of};
+use tests_calls::{ends, holds, say, shelf_of, stands, status_of};
+use tests_samples::EMPTY;
 
 /// The count file of a run that returns: each of the nine sites is executed once.
 const ALL: &str =

@@ -1,5 +1,5 @@
 //! Each of the four kinds of items stands twice in a function, whatever the seed: 47 commands and 35 sites a function, and 5 commands and 4
-//! sites for each call of the function before it.
+//! sites for each call of the function before it. `oracles/made.py` prints the lengths and these counts, and the weights of up to 100 functions.
 use bl_base::NoMemory;
 use bl_gen::make;
 use bl_outside::MemoryShelf;

@@ -1,6 +1,6 @@
 //! A program whose report and certificate have more than a million bytes each, where want of memory could hide. Its function loads a word and the word
-//! at that address, and drops it, 25,000 times. That is eight commands and five sites: a move, a place, its test and a load twice, and a jump to what
-//! comes next for the drop. The first load of a pair has to be protected, since its value is the address of the second; so there is a path for each.
+//! at that address, and drops it, 25,000 times. By hand that is eight commands and five sites: a move, a place, its test and a load twice, and a jump to
+//! what comes next for the drop. The first load of a pair has to be protected, since its value is the address of the second; so there is a path for each.
 use bl_base::NoMemory;
 use bl_outside::{MemoryShelf, MemorySink};
 use std::alloc::Global;

@@ -1,13 +1,11 @@
-//! Expected positions, weights and images are computed by hand from the rules of lowering. Where several greatest flows exist, any of
-//! them may be written, so each of their paths is taken.
+//! Expected positions, weights and images are computed by hand from the rules of lowering; `oracles/images.py` spells the images. Where several
+//! greatest flows exist, any of them may be written, so each of their paths is taken.
 use bl_base::{List, NoMemory};
 use bl_outside::{MemoryShelf, MemorySink};
 use std::alloc::Global;
 use std::test::Fail;
-use tests_calls::{
-    BYTES_OF_BYTES, EMPTY_IMAGE, LOADS_IMAGE, SUM, bytes_of, ends, holds, put_module, say,
-    shelf_failing, stands, status_of,
-};
+use tests_calls::{bytes_of, ends, holds, put_module, say, shelf_failing, stands, status_of};
+use tests_samples::{BYTES_OF_BYTES, EMPTY_IMAGE, LOADS_IMAGE, NO_PATHS, SUM};
 
 /// A load whose value is the address of a second load.
 const CHAIN: [u8; 38] = [
@@ -155,9 +153,6 @@ fn is_protected(
     Ok(status == 0 && has_path(out.bytes(), bytes_of(shelf, "c"), head, paths))
 }
 
-/// The certificate of no path.
-static NO_PATHS: &[u8] = b"{\"paths\":[],\"weight\":0}";
-
 /// What `verify` prints where all is well.
 const VERIFIED: &str = "certificate yes\nstable yes\nconstant-time yes\nsafe yes\n";
 
@@ -169,7 +164,7 @@ fn needs_no_protects(
     image: &[u8],
 ) -> Result<bool, NoMemory> {
     let reported = ends(alloc, shelf, HARDEN, 0, report)?;
-    Ok(reported && holds(shelf, "i", image) && holds(shelf, "c", NO_PATHS))
+    Ok(reported && holds(shelf, "i", image) && holds(shelf, "c", NO_PATHS.as_bytes()))
 }
 
 /// Whether that holds for the module without sections.
@@ -195,7 +190,7 @@ fn runs_hardened(
     shelf.put("s", b"arg 1024\narg 3\n")?;
     let reported = ends(alloc, shelf, HARDEN, 0, report)?;
     let ran = ends(alloc, shelf, "blade run i m/sum s", 0, text)?;
-    Ok(reported && holds(shelf, "c", NO_PATHS) && ran)
+    Ok(reported && holds(shelf, "c", NO_PATHS.as_bytes()) && ran)
 }
 
 /// Whether that holds for the sum of words.

@@ -1,10 +1,10 @@
 //! Modules by their sections, and calls on them.
 use crate::calls::{end_alike, ends};
-use crate::samples::EMPTY;
 use crate::shelves::{shelf_of, stands};
 use bl_base::{List, NoMemory};
 use bl_outside::MemoryShelf;
 use std::alloc::Global;
+use tests_samples::EMPTY;
 
 /// The line of a call that hardens the module `m.wasm`.
 pub const HARDEN: &str = "blade harden i.img i.json m.wasm";

@@ -1,3 +1,5 @@
+//! Instructions, types and vectors by their bytes. All was read off by hand: the binary format of WebAssembly 1.0 (section 5), with block types by index
+//! (a number of 33 bits with a sign that isn't negative) and extensions by sign.
 use bl_code::{
     CodeError, Index, Malformed, read_block_type, read_expression, read_instr, read_limits,
     read_name, read_sized, read_vec,

@@ -1,4 +1,4 @@
-//! Modules that are made, byte by byte, and read.
+//! Modules that are made, byte by byte, and read. Their bytes and lengths are those that `oracles/made.py` prints.
 ghost use Rattle.std.specs.Prelude.{◌<◌, ◌^◌, length};
 ghost use Rattle.bl_wasm.specs.Validity.{functions_of};
 

@@ -1,3 +1,5 @@
+//! Exports, the empty tree, and the size of an instruction. By hand: a function is found by the name that it was added with;
+//! 16 bytes are what an instruction is meant to take.
 use bl_base::{List, NoMemory};
 use bl_wasm::{Exports, Instr, Linked, Tree};
 use std::alloc::Global;

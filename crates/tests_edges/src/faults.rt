@@ -1,4 +1,5 @@
-//! A file that is kept over another one, where one call of the system's that writes fails.
+//! A file that is kept over another one, where one call of the system's that writes fails. By hand: so many bytes are written by a call for each three
+//! of them, so the call behind the last one is never made.
 use crate::disk::{Disk, Manners};
 use crate::files::stands_alone;
 use crate::system::System;

@@ -1,4 +1,4 @@
-//! A shelf over files that are read and written little at once.
+//! A shelf over files that are read and written little at once. By hand: what is read from a place on is what stands in the text there.
 use crate::disk::{Disk, Manners};
 use crate::system::System;
 use bl_outside::{FileShelf, Shelf};

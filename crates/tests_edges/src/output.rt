@@ -1,4 +1,4 @@
-//! A sink over an output that takes little at once.
+//! A sink over an output that takes little at once. By hand: it takes so many bytes a call until none are left.
 use bl_outside::{Sink, WriterSink};
 use std::alloc::Global;
 use std::cell::RefCell;

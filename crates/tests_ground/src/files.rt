@@ -1,4 +1,4 @@
-//! The shelf over the files of the runtime.
+//! The shelf over the files of the runtime. By hand: what is read from a place on is what was kept there.
 use crate::shelves::{fails, gives, reads, stops};
 use bl_base::NoMemory;
 use bl_outside::{FileShelf, Shelf};

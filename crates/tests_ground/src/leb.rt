@@ -1,4 +1,5 @@
-//! Integers in LEB128: rows of the standard's form, and numbers that are none.
+//! Integers in LEB128, and numbers that are none. The rows were worked by hand from the standard's form (WebAssembly 1.0, section 5.2.2): seven bits a
+//! byte, the lowest first, and 80 in each byte but the last.
 use bl_base::NoMemory;
 use bl_leb::{push_i32, push_u32, push_u64, read_i32, read_i64, read_s33, read_short, read_u32};
 use std::alloc::Global;

@@ -1,4 +1,4 @@
-//! The shelf in memory.
+//! The shelf in memory. By hand: an entry gives what was put or kept last, and the calls that are listed fail.
 use crate::shelves::{fails, gives, reads, stops};
 use bl_base::{List, NoMemory};
 use bl_outside::{MemoryShelf, Shelf};

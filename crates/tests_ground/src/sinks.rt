@@ -1,4 +1,4 @@
-//! The sink in memory, and standard output.
+//! The sink in memory, and standard output. By hand: a push takes what the limit, the room and the most at once leave.
 use bl_base::NoMemory;
 use bl_outside::{MemorySink, Sink, SinkFault, WriterSink};
 use std::alloc::Global;

@@ -1,4 +1,4 @@
-//! Start files.
+//! Start files. What each line is, and which is the first bad one, was read off by hand from the rules of start files in docs/CLI.md and in FORMATS.
 use bl_base::ValueType::{I32, I64};
 use bl_base::{Start, ValueType};
 use bl_trace::{StartError, read_start};

@@ -1,4 +1,4 @@
-//! Lists and texts, sets of sites, and starts.
+//! Lists and texts, sets of sites, and starts. By hand: what was put in is there, and an argument or a patch fits up to its type's or its page's last number.
 use bl_base::{List, Patch, Pos, SiteSet, Start, Text, ValueType, fits};
 use std::test::Fail;
 

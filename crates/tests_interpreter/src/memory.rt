@@ -1,4 +1,4 @@
-//! Runs over one memory. Results and bytes are those that node v20.20's WebAssembly gives for the same items.
+//! Runs over one memory. Results and bytes are those that node v20.20's WebAssembly gives for the same items, as `oracles/memory.js` prints them.
 ghost use Rattle.std.specs.Prelude.{◌≡◌, [], ◌∷◌, ◌<◌, ◌≤◌, ◌^◌, IfOk, IfSome};
 ghost use Rattle.tests_interpreter.specs.MemoryTrees.{accessing_function, accessing_type, growing_function, growing_type, memory_tree, zeros};
 

@@ -1,5 +1,5 @@
-//! Runs that call through a table. Results are those that node v20.20's WebAssembly gives for the same items, and it traps in the same
-//! rows; which trap it is follows section 4.4.5 of WebAssembly 1.0, since node has one text for an empty slot and another type.
+//! Runs that call through a table. Results are those that node v20.20's WebAssembly gives for the same items, as `oracles/memory.js` prints them, and it
+//! traps in the same rows; which trap it is follows section 4.4.5 of WebAssembly 1.0, since node has one text for an empty slot and another type.
 ghost use Rattle.std.specs.Prelude.{◌≡◌, [], ◌∷◌, IfOk, OnOk};
 ghost use Rattle.tests_interpreter.specs.TableTrees.{calling, giving, giving_nine, over_table, table_tree};
 ghost use Rattle.bl_base.specs.declared.names.Label.TheVariants.{Public};

@@ -1,4 +1,4 @@
-//! One module as a program of its own. The module's bytes were run by node v20.20.
+//! One module as a program of its own. The module's bytes were run by node v20.20; what is linked of them was read off by hand.
 use bl_base::NoMemory;
 use bl_wasm::{BlockType, Exports, Function, Global as LinkedGlobal, Instr, Signature, Tree};
 use std::alloc::Global;

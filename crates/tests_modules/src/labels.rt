@@ -5,6 +5,7 @@ use bl_decode::decode;
 use bl_labels::{LabelError, Labels, Place, labels_of};
 use std::alloc::Global;
 use std::test::Fail;
+use tests_samples::IDENTITY;
 
 /// Magic and version.
 static HEAD: &[u8] = b"\0asm\x01\0\0\0";
@@ -14,10 +15,6 @@ static HEAD: &[u8] = b"\0asm\x01\0\0\0";
 static OWN: &[u8] =
     b"\x01\x06\x01`\x01\x7f\x01\x7f\x02\x0e\x01\x04host\x05print\0\0\x03\x02\x01\0\x05\x03\x01\0\x01\x06\x06\x01\x7f\0A\0\
       \x0b\n\x06\x01\x04\0 \0\x0b";
-
-/// The sections of a module with one function, which gives its argument and is exported.
-static IDENTITY: &[u8] =
-    b"\x01\x06\x01`\x01\x7f\x01\x7f\x03\x02\x01\0\x07\x05\x01\x01f\0\0\n\x06\x01\x04\0 \0\x0b";
 
 /// The bytes of the module of those sections and others behind them.
 fn module_of(alloc: Global, first: &[u8], second: &[u8]) -> Result<Vec<u8>, NoMemory> {
@@ -161,9 +158,9 @@ fn demands_are_new(alloc: Global) -> Result<bool, NoMemory> {
     let demand = b"\0\x15\x0cblade.labels\x01\x02\0\0\0\x03\0\0";
     let later = b"\0\x15\x0cblade.labels\x02\x02\0\0\0\x03\0\0";
     Ok(
-        is_labelled(alloc, IDENTITY, secret)?
-            && fault(alloc, IDENTITY, demand)? == Some(LabelError::Malformed)
-            && is_labelled(alloc, IDENTITY, later)?,
+        is_labelled(alloc, &IDENTITY, secret)?
+            && fault(alloc, &IDENTITY, demand)? == Some(LabelError::Malformed)
+            && is_labelled(alloc, &IDENTITY, later)?,
     )
 }
 

@@ -1,5 +1,5 @@
-//! Bodies that were judged elsewhere, each on a line: in the binary format, without its `end`, and whether the module round it
-//! is valid.
+//! Bodies that `oracles/validity.js` wrote by node v20.20's answers, each on a line: in the binary format, without its `end`, and whether the module
+//! round it is valid.
 
 /// Bodies with blocks of at most one type.
 pub(super) const BODIES: &str = "\

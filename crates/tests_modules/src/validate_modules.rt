@@ -1,4 +1,4 @@
-//! Modules that were judged elsewhere, by the parts that differ from those of a valid one.
+//! Modules that `oracles/validity.js` wrote by node v20.20's answers, by the parts that differ from those of a valid one.
 use super::validate::{CONSTANT, Case, Change, FUNCTION, Parts, RULE};
 use bl_validate::Invalid;
 use bl_wasm::WasmType::{F32, F64, I32, I64};

@@ -1,50 +1,16 @@
+//! Images that are read, written and refused. Which rule a changed byte breaks, and where, was worked by hand from the rules of programs in FORMATS;
+//! `examples/formats/read.py`, which was written from that page alone, answers the same. Lengths are those of the arrays.
 use crate::seq::program_of;
 use bl_base::{NoMemory, Pos, SiteSet};
 use bl_cmd::{WellFormed, weight};
 use bl_image::{ImageError, decode_image, encode, image_length};
 use std::alloc::Global;
 use std::test::Fail;
-
-/// The image of the empty module.
-static EMPTY: [u8; 9] = [0x42, 0x4C, 0x49, 0x4D, 0x01, 0x00, 0x00, 0x00, 0x00];
-
-/// The image of a function that adds 1.
-pub(crate) static INC: [u8; 53] = [
-    0x42, 0x4C, 0x49, 0x4D, 0x01, 0x00, 0x00, 0x01, 0x01, 0x7F, 0x00, 0x01, 0x7F, 0x05, 0x06, 0x01,
-    0x07, 0x69, 0x6E, 0x63, 0x2F, 0x69, 0x6E, 0x63, 0x00, 0x04, 0x08, 0x00, 0x00, 0x00, 0x02, 0x00,
-    0x00, 0x00, 0x00, 0x00, 0x03, 0x01, 0x01, 0x00, 0x00, 0x6A, 0x04, 0x00, 0x02, 0x00, 0x03, 0x07,
-    0x00, 0x00, 0x00, 0x04, 0x08,
-];
-
-/// The image of a load whose value is the address of another.
-pub(crate) static LOADS: [u8; 86] = [
-    0x42, 0x4C, 0x49, 0x4D, 0x01, 0x00, 0x01, 0x01, 0x80, 0x02, 0x00, 0x00, 0x01, 0x01, 0x7F, 0x00,
-    0x01, 0x7F, 0x07, 0x0A, 0x01, 0x03, 0x6D, 0x2F, 0x66, 0x00, 0x04, 0x08, 0x00, 0x00, 0x00, 0x03,
-    0x00, 0x01, 0x00, 0x00, 0x01, 0x04, 0x00, 0x03, 0x00, 0x00, 0x01, 0x04, 0x03, 0x00, 0x04, 0x03,
-    0x0B, 0x01, 0x08, 0x28, 0x00, 0x05, 0x00, 0x00, 0x03, 0x00, 0x00, 0x01, 0x06, 0x00, 0x05, 0x00,
-    0x00, 0x01, 0x04, 0x03, 0x00, 0x06, 0x03, 0x0E, 0x01, 0x00, 0x28, 0x00, 0x07, 0x00, 0x00, 0x05,
-    0x07, 0x00, 0x00, 0x00, 0x07, 0x08,
-];
-
-/// The image of a function that grows a memory of one page, whose reserve is two pages.
-static GROWTH: [u8; 78] = [
-    0x42, 0x4C, 0x49, 0x4D, 0x01, 0x00, 0x01, 0x01, 0x02, 0x00, 0x00, 0x01, 0x01, 0x7F, 0x00, 0x01,
-    0x7F, 0x05, 0x09, 0x01, 0x03, 0x6D, 0x2F, 0x66, 0x00, 0x00, 0x00, 0x6B, 0x03, 0x01, 0x02, 0x00,
-    0x00, 0x00, 0x00, 0x4B, 0x04, 0x00, 0x01, 0x00, 0x03, 0x03, 0x00, 0x04, 0x0D, 0x0A, 0x00, 0x00,
-    0x00, 0x05, 0x00, 0x00, 0x00, 0x00, 0x6A, 0x00, 0x00, 0x00, 0x00, 0x01, 0x04, 0x0E, 0x00, 0x00,
-    0x00, 0x05, 0x01, 0xFF, 0xFF, 0xFF, 0xFF, 0x0F, 0x07, 0x00, 0x00, 0x00, 0x05, 0x08,
-];
+use tests_samples::{ADD_ONE_IMAGE, DEMANDED_IMAGE, EMPTY_IMAGE, GROWTH_IMAGE, LOADS_IMAGE};
 
 /// The image of a secret memory of one page.
 static VAULT: [u8; 13] = [
     0x42, 0x4C, 0x49, 0x4D, 0x01, 0x00, 0x01, 0x01, 0x01, 0x01, 0x00, 0x00, 0x00,
-];
-
-/// The image of a function that gives its secret parameter, where the result is demanded public.
-static DEMANDED: [u8; 41] = [
-    0x42, 0x4C, 0x49, 0x4D, 0x02, 0x00, 0x00, 0x01, 0x01, 0x7F, 0x01, 0x01, 0x7F, 0x03, 0x04, 0x01,
-    0x04, 0x69, 0x64, 0x2F, 0x66, 0x00, 0x01, 0x00, 0x00, 0x00, 0x00, 0x04, 0x08, 0x00, 0x00, 0x00,
-    0x02, 0x00, 0x00, 0x07, 0x00, 0x00, 0x00, 0x02, 0x08,
 ];
 
 /// The image of the program that the bytes are the image of.
@@ -61,7 +27,14 @@ fn is_read_again(alloc: Global, image: &[u8]) -> Result<bool, NoMemory> {
 
 /// How many of the images are read again before the first that isn't.
 fn read_again(alloc: Global) -> Result<u32, NoMemory> {
-    let images: [&[u8]; 6] = [&EMPTY, &INC, &LOADS, &GROWTH, &VAULT, &DEMANDED];
+    let images: [&[u8]; 6] = [
+        &EMPTY_IMAGE,
+        &ADD_ONE_IMAGE,
+        &LOADS_IMAGE,
+        &GROWTH_IMAGE,
+        &VAULT,
+        &DEMANDED_IMAGE,
+    ];
     let mut passed = 0u32;
     for image in images {
         if !is_read_again(alloc, image)? {
@@ -107,12 +80,12 @@ fn length_told(alloc: Global, image: &[u8]) -> Result<u64, NoMemory> {
 /// How many of the images have the length that is told before the first that hasn't.
 fn lengths_told(alloc: Global) -> Result<u32, NoMemory> {
     let images: [(&[u8], u64); 7] = [
-        (&EMPTY, 9),
-        (&INC, 53),
-        (&LOADS, 86),
-        (&GROWTH, 78),
+        (&EMPTY_IMAGE, 9),
+        (&ADD_ONE_IMAGE, 53),
+        (&LOADS_IMAGE, 86),
+        (&GROWTH_IMAGE, 78),
         (&VAULT, 13),
-        (&DEMANDED, 41),
+        (&DEMANDED_IMAGE, 41),
         (&ROW, 30),
     ];
     let mut passed = 0u32;
@@ -152,8 +125,8 @@ fn is_refused(alloc: Global, bytes: &[u8], error: ImageError) -> bool {
 /// How many prefixes of an image are no image before the first that is one.
 fn prefixes(alloc: Global) -> u32 {
     let mut passed = 0u32;
-    for length in 0..INC.len() {
-        if !is_refused(alloc, &INC[..length], ImageError::NotAnImage) {
+    for length in 0..ADD_ONE_IMAGE.len() {
+        if !is_refused(alloc, &ADD_ONE_IMAGE[..length], ImageError::NotAnImage) {
             break;
         }
         passed = passed.wrapping_add(1);
@@ -215,13 +188,13 @@ static CHANGES: [Change; 7] = [
 
 /// Whether another entry of the function makes another image.
 fn is_another(alloc: Global) -> Result<bool, NoMemory> {
-    let bytes = changed(alloc, &INC, 28, 0x08)?;
+    let bytes = changed(alloc, &ADD_ONE_IMAGE, 28, 0x08)?;
     is_read_again(alloc, &bytes)
 }
 
 #[test]
 fn a_changed_byte_is_answered(rt: HostRuntime) -> Result<(), Fail> {
-    assert_eq!(rt; answered(rt.alloc(), &INC, &CHANGES)?, 7);
+    assert_eq!(rt; answered(rt.alloc(), &ADD_ONE_IMAGE, &CHANGES)?, 7);
     assert!(rt; is_another(rt.alloc())?);
     Ok(())
 }
@@ -253,8 +226,8 @@ static GROWN: [Change; 1] = [(30, 0x03, Some((8, 11)))];
 #[test]
 fn a_program_that_breaks_one_rule_is_told_it(rt: HostRuntime) -> Result<(), Fail> {
     assert!(rt; is_refused(rt.alloc(), &EMPTY_FUNCTION, error_of(Some((2, 0)))));
-    assert_eq!(rt; answered(rt.alloc(), &LOADS, &BREAKS)?, 9);
-    assert_eq!(rt; answered(rt.alloc(), &GROWTH, &GROWN)?, 1);
+    assert_eq!(rt; answered(rt.alloc(), &LOADS_IMAGE, &BREAKS)?, 9);
+    assert_eq!(rt; answered(rt.alloc(), &GROWTH_IMAGE, &GROWN)?, 1);
     Ok(())
 }
 
@@ -263,7 +236,7 @@ static SECOND_BREAKS: [Change; 2] = [(33, 0x08, Some((4, 8))), (52, 0x01, Some((
 
 /// How many of them are answered so where the loads break another rule.
 fn second_broken(alloc: Global) -> Result<u32, NoMemory> {
-    let bytes = changed(alloc, &LOADS, 43, 0x05)?;
+    let bytes = changed(alloc, &LOADS_IMAGE, 43, 0x05)?;
     answered(alloc, &bytes, &SECOND_BREAKS)
 }
 
@@ -275,9 +248,9 @@ fn of_two_broken_rules_the_first_is_told(rt: HostRuntime) -> Result<(), Fail> {
 
 /// The image of the loads with no demands, where the Set at 9 weighs 5 and the mark of the Set at 8 has depth 2.
 fn listed(alloc: Global) -> Result<Vec<u8>, NoMemory> {
-    let mut bytes = LOADS[..26].to_vec(alloc)?;
+    let mut bytes = LOADS_IMAGE[..26].to_vec(alloc)?;
     bytes.extend_from_slice(&[0x00, 0x01, 0x09, 0x05])?;
-    bytes.extend_from_slice(&LOADS[26..])?;
+    bytes.extend_from_slice(&LOADS_IMAGE[26..])?;
     if bytes.len() > 33 {
         bytes[4] = 0x02;
         bytes[33] = 0x02;
@@ -320,9 +293,9 @@ fn listed_weights_take_the_place_of_those_of_marks(rt: HostRuntime) -> Result<()
 
 /// The image of a function that adds 1, with a number in a longer spelling.
 fn longer(alloc: Global) -> Result<Vec<u8>, NoMemory> {
-    let mut bytes = INC[..13].to_vec(alloc)?;
+    let mut bytes = ADD_ONE_IMAGE[..13].to_vec(alloc)?;
     bytes.extend_from_slice(&[0x85, 0x00])?;
-    bytes.extend_from_slice(&INC[14..])?;
+    bytes.extend_from_slice(&ADD_ONE_IMAGE[14..])?;
     Ok(bytes)
 }
 
@@ -342,7 +315,7 @@ static NO_RESULT: [Change; 1] = [(25, 0x01, Some((9, 0)))];
 
 #[test]
 fn a_demand_of_a_result_that_does_not_exist(rt: HostRuntime) -> Result<(), Fail> {
-    assert_eq!(rt; answered(rt.alloc(), &DEMANDED, &NO_RESULT)?, 1);
+    assert_eq!(rt; answered(rt.alloc(), &DEMANDED_IMAGE, &NO_RESULT)?, 1);
     Ok(())
 }
 

@@ -5,6 +5,7 @@ use bl_lower::lower;
 use bl_wasm::Linked;
 use std::alloc::Global;
 use tests_linked::linked;
+use tests_samples::EMPTY;
 
 /// The image of what is linked; None where it is not lowered.
 fn image_of(alloc: Global, tree: Linked) -> Result<Option<Vec<u8>>, NoMemory> {
@@ -28,4 +29,11 @@ pub fn is_image(alloc: Global, module: &[u8], image: &[u8]) -> Result<bool, NoMe
         Some(Ok(tree)) => has_image(alloc, tree, image),
         _ => Ok(false),
     }
+}
+
+/// The same of the module of those sections.
+pub fn is_image_of(alloc: Global, sections: &[u8], image: &[u8]) -> Result<bool, NoMemory> {
+    let mut module = EMPTY.to_vec(alloc)?;
+    module.extend_from_slice(sections)?;
+    is_image(alloc, &module, image)
 }

@@ -1,11 +1,11 @@
-//! What plain runs come to.
-use crate::image::{INC, LOADS};
+//! What plain runs come to. The six commands of the one program and the bounds test of the other were followed by hand.
 use bl_base::{List, NoMemory, Pages, Run, Start, Trap};
 use bl_cmd::WellFormed;
 use bl_image::decode_image;
 use bl_seq::run;
 use std::alloc::Global;
 use std::test::Fail;
+use tests_samples::{ADD_ONE_IMAGE, LOADS_IMAGE};
 use tests_starts::is_start;
 
 /// The program that the bytes are the image of; bytes that are none are answered like want of memory.
@@ -50,9 +50,9 @@ fn outcome(
     run_from(alloc, &program, &start, steps)
 }
 
-/// Whether the run of `INC` with the greatest argument returns 0 within six steps.
+/// Whether the run of `ADD_ONE_IMAGE` with the greatest argument returns 0 within six steps.
 fn returns(alloc: Global) -> Result<bool, NoMemory> {
-    match &outcome(alloc, &INC, 4_294_967_295, 6)? {
+    match &outcome(alloc, &ADD_ONE_IMAGE, 4_294_967_295, 6)? {
         Some(Run::Returned { values, memories }) => {
             Ok(values.as_slice() == [0].as_slice() && memories.is_empty())
         }
@@ -62,12 +62,15 @@ fn returns(alloc: Global) -> Result<bool, NoMemory> {
 
 /// Whether five steps are too few for it.
 fn is_spent(alloc: Global) -> Result<bool, NoMemory> {
-    Ok(matches!(&outcome(alloc, &INC, 4_294_967_295, 5)?, Some(Run::Spent)))
+    Ok(matches!(
+        &outcome(alloc, &ADD_ONE_IMAGE, 4_294_967_295, 5)?,
+        Some(Run::Spent)
+    ))
 }
 
 /// Whether an argument of 33 bits fits no start.
 fn is_unfit(alloc: Global) -> Result<bool, NoMemory> {
-    Ok(outcome(alloc, &INC, 4_294_967_296, 5)?.is_none())
+    Ok(outcome(alloc, &ADD_ONE_IMAGE, 4_294_967_296, 5)?.is_none())
 }
 
 #[test]
@@ -86,9 +89,9 @@ fn is_one_page(memories: &[Pages]) -> bool {
     memories.len() == 1 && memory.pages == 1 && memory.bytes.len() == 65_536
 }
 
-/// Whether the second load of `LOADS` leaves its memory.
+/// Whether the second load of `LOADS_IMAGE` leaves its memory.
 fn leaves(alloc: Global) -> Result<bool, NoMemory> {
-    match &outcome(alloc, &LOADS, 65_533, 100)? {
+    match &outcome(alloc, &LOADS_IMAGE, 65_533, 100)? {
         Some(Run::Trapped { kind, memories }) => {
             Ok(*kind == Trap::OutOfBounds && is_one_page(memories.as_slice()))
         }

@@ -1,4 +1,5 @@
-//! Weights by counted runs: runs of a loop that loads, the least protects by their counts, and count files.
+//! Weights by counted runs: runs of a loop that loads, the least protects by their counts, and count files. The runs were followed by hand; a site weighs
+//! its count times 2^21, and 1 more. Which line of a count file is the first bad one follows from FORMATS, by hand.
 ghost use Rattle.std.specs.Prelude.{◌<◌, ◌^◌, IsTrue};
 ghost use Rattle.std.specs.List.{All};
 

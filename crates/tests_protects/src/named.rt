@@ -1,4 +1,5 @@
-//! Programs that declare more variables than their commands name.
+//! Programs that declare more variables than their commands name. By hand, from the transient rules: 13 tests what comes of the first load, 14 takes it
+//! for an address, and the protect at 11 keeps both from it.
 use crate::certificates::sites_of;
 use crate::images::LOADS;
 use crate::least::{is_chosen, program_of};

@@ -4,9 +4,9 @@
 use bl_base::NoMemory;
 use std::alloc::Global;
 use std::test::Fail;
-use tests_calls::{
-    I32_EXTEND8, I32_EXTEND16, I64_EXTEND8, I64_EXTEND16, I64_EXTEND32, LOOP_OF_A_TYPE, Run, SWAP,
-    interprets,
+use tests_calls::{Run, interprets};
+use tests_samples::{
+    I32_EXTEND8, I32_EXTEND16, I64_EXTEND8, I64_EXTEND16, I64_EXTEND32, LOOP_OF_A_TYPE, SWAP,
 };
 
 /// A function of type 0, [] -> [i32], with a block of type 1, [i32] -> [i32], whose index is spelled in five bytes.

@@ -1,16 +1,11 @@
-//! Variables that an image declares and no command names: each command takes room for what is named alone. The texts follow from the
+//! Variables that an image declares and no command names: each command takes room for what is named alone. The texts were worked by hand from the
 //! one command, a Ret, by the rules of the image, the buffer machine and the report.
 use bl_base::NoMemory;
 use bl_outside::MemoryShelf;
 use std::alloc::Global;
 use std::test::Fail;
 use tests_calls::{ends, shelf_of};
-
-/// The image of a function of 2,147,483,647 variables that returns at once.
-const DECLARED: [u8; 23] = [
-    0x42, 0x4C, 0x49, 0x4D, 0x01, 0x00, 0x00, 0x01, 0x00, 0x00, 0xFF, 0xFF, 0xFF, 0xFF, 0x07, 0x01,
-    0x01, 0x03, 0x6D, 0x2F, 0x66, 0x00, 0x08,
-];
+use tests_samples::{DECLARED_IMAGE, NO_PATHS};
 
 /// A command, and the text that it ends with and status 0.
 struct Said {
@@ -53,8 +48,8 @@ fn files(alloc: Global) -> Result<MemoryShelf, NoMemory> {
     shelf_of(
         alloc,
         &[
-            ("i", &DECLARED),
-            ("c", br#"{"paths":[],"weight":0}"#),
+            ("i", &DECLARED_IMAGE),
+            ("c", NO_PATHS.as_bytes()),
             ("s", b""),
             ("t", b"fetch\nretire\n"),
         ],

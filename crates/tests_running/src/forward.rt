@@ -1,4 +1,5 @@
-//! `forward` and `twin` on images that are lowered before.
+//! `forward` and `twin` on images that are lowered before. The lines are those that `oracles/traces.py` prints; `safe` is by hand: what a load gives reaches
+//! an address in the module of bytes alone. Refusals follow from the order of errors in docs/CLI.md.
 use bl_base::NoMemory;
 use bl_outside::MemoryShelf;
 use std::alloc::Global;

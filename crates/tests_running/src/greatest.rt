@@ -1,10 +1,11 @@
-//! Runs near the greatest inputs, and with long outputs, where want of memory could hide. What is printed follows from the formats: a line a row
+//! Runs near the greatest inputs, and with long outputs, where want of memory could hide. What is printed follows by hand from the formats: a line a row
 //! that is not zero, and a line a directive.
 use bl_base::NoMemory;
 use bl_outside::{MemoryShelf, MemorySink};
 use std::alloc::Global;
 use std::test::Fail;
-use tests_calls::{ADD_ONE, LOWER, ends_on, ends_to, shelf_of, shelf_with, status_of};
+use tests_calls::{LOWER, ends_on, ends_to, shelf_of, shelf_with, status_of};
+use tests_samples::ADD_ONE;
 
 /// The module that adds 1 with a custom section behind it, 4,194,304 bytes in all.
 fn longest_module(alloc: Global) -> Result<Vec<u8>, NoMemory> {

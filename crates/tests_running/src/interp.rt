@@ -1,11 +1,10 @@
-//! Modules that are interpreted: steps, and exports, starts and files that are refused.
+//! Modules that are interpreted: steps, and exports, starts and files that are refused. By hand: entering a function, each instruction and the return are a
+//! step each, so adding 1 takes five; the lines and the order of refusals are those of docs/CLI.md.
 use bl_base::NoMemory;
 use std::alloc::Global;
 use std::test::Fail;
-use tests_calls::{
-    ADD_ONE, COUNT_DOWN, Case, DIVISION, LOADS, REMAINDER, UNREACHABLE, UNTYPED, ends_on,
-    interprets, passed,
-};
+use tests_calls::{Case, ends_on, interprets, passed};
+use tests_samples::{ADD_ONE, COUNT_DOWN, DIVISION, LOADS, REMAINDER, UNREACHABLE, UNTYPED};
 
 /// A function that loops for ever.
 const ENDLESS: [u8; 28] = [

@@ -4,7 +4,8 @@ use bl_base::NoMemory;
 use bl_outside::{MemoryShelf, MemorySink};
 use std::alloc::Global;
 use std::test::Fail;
-use tests_calls::{ADD_ONE_IMAGE, LOADS_IMAGE, are_no_requests, ends, holds, say, shelf_of};
+use tests_calls::{are_no_requests, ends, holds, say, shelf_of};
+use tests_samples::{ADD_ONE_IMAGE, LOADS_IMAGE};
 
 /// The image of a function that counts its parameter down to 0.
 const LOOP: [u8; 40] = [

@@ -1,8 +1,9 @@
-//! Directives on images, and what `spec` prints of them.
+//! Directives on images, and what `spec` prints of them, as `oracles/traces.py` does. Refusals follow from the order of errors in docs/CLI.md.
 use bl_base::NoMemory;
 use std::alloc::Global;
 use std::test::Fail;
-use tests_calls::{ADD_ONE_IMAGE, LOADS_IMAGE, ends, shelf_of};
+use tests_calls::{ends, shelf_of};
+use tests_samples::{ADD_ONE_IMAGE, LOADS_IMAGE};
 
 /// The image of a function that stores its parameter at the place that it names, and loads it again.
 const STORES: [u8; 77] = [

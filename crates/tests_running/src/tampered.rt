@@ -1,9 +1,11 @@
-//! Images and modules with a byte changed or missing.
+//! Images and modules with a byte changed or missing. Which rule a changed image breaks, and where, was worked by hand from the rules of programs in
+//! FORMATS; `examples/formats/read.py`, which was written from that page alone, answers the same. The modules break one rule or limit each.
 use bl_base::NoMemory;
 use bl_outside::MemoryShelf;
 use std::alloc::Global;
 use std::test::Fail;
-use tests_calls::{ADD_ONE_IMAGE, ends, shelf_of, stands};
+use tests_calls::{ends, shelf_of, stands};
+use tests_samples::ADD_ONE_IMAGE;
 
 /// Whether an image runs so with the argument 1.
 fn runs(alloc: Global, image: &[u8], status: u8, text: &str) -> Result<bool, NoMemory> {

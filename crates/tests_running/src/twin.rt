@@ -1,25 +1,19 @@
 //! Two runs of an image by the same directives, from starts that differ in a secret or in public.
 //!
-//! The lines are computed by hand from the rules of the machine with a buffer. Entry 1 of it is the move of the parameter, 3 and 6 are the
-//! guards of the two loads, 4 and 7 the loads.
+//! The lines are computed by hand from the rules of the machine with a buffer, and `oracles/traces.py` prints the same. Entry 1 of it is the move of the
+//! parameter, 3 and 6 are the guards of the two loads, 4 and 7 the loads. Refusals follow from the order of errors in docs/CLI.md.
 use bl_base::NoMemory;
 use bl_outside::MemoryShelf;
 use std::alloc::Global;
 use std::test::Fail;
-use tests_calls::{ends, holds, shelf_of, status_of};
+use tests_calls::{ends, holds, module_of, shelf_of, status_of};
+use tests_samples::{BYTES_OF_BYTES, NO_PATHS};
 
-/// A module with a memory of at most one page, whose function loads a byte, and then the byte at that address.
-static BYTES_OF_BYTES: [u8; 47] = [
-    0x00, 0x61, 0x73, 0x6D, 0x01, 0x00, 0x00, 0x00, 0x01, 0x06, 0x01, 0x60, 0x01, 0x7F, 0x01, 0x7F,
-    0x03, 0x02, 0x01, 0x00, 0x05, 0x04, 0x01, 0x01, 0x01, 0x01, 0x07, 0x05, 0x01, 0x01, 0x66, 0x00,
-    0x00, 0x0A, 0x0C, 0x01, 0x0A, 0x00, 0x20, 0x00, 0x2D, 0x00, 0x00, 0x2D, 0x00, 0x00, 0x0B,
-];
-
-/// The same with one load, of eight bytes.
-static EIGHT_BYTES: [u8; 44] = [
-    0x00, 0x61, 0x73, 0x6D, 0x01, 0x00, 0x00, 0x00, 0x01, 0x06, 0x01, 0x60, 0x01, 0x7F, 0x01, 0x7E,
-    0x03, 0x02, 0x01, 0x00, 0x05, 0x04, 0x01, 0x01, 0x01, 0x01, 0x07, 0x05, 0x01, 0x01, 0x66, 0x00,
-    0x00, 0x0A, 0x09, 0x01, 0x07, 0x00, 0x20, 0x00, 0x29, 0x03, 0x00, 0x0B,
+/// The sections of a module with one load, of eight bytes.
+static EIGHT_BYTES: [u8; 36] = [
+    0x01, 0x06, 0x01, 0x60, 0x01, 0x7F, 0x01, 0x7E, 0x03, 0x02, 0x01, 0x00, 0x05, 0x04, 0x01, 0x01,
+    0x01, 0x01, 0x07, 0x05, 0x01, 0x01, 0x66, 0x00, 0x00, 0x0A, 0x09, 0x01, 0x07, 0x00, 0x20, 0x00,
+    0x29, 0x03, 0x00, 0x0B,
 ];
 
 /// A module of a secret memory of one page.
@@ -54,14 +48,20 @@ fn put_starts(shelf: &mut MemoryShelf, trace: &str, starts: (&str, &str)) -> Res
     shelf.put("two", starts.1.as_bytes())
 }
 
-/// A shelf with those and the main module.
+/// A shelf with the main module of some sections.
+fn shelf_with_main(alloc: Global, sections: &[u8]) -> Result<MemoryShelf, NoMemory> {
+    let module = module_of(alloc, sections)?;
+    shelf_of(alloc, &[("main.wasm", &module)])
+}
+
+/// A shelf with that and those.
 fn shelf_with(
     alloc: Global,
-    main: &[u8],
+    sections: &[u8],
     trace: &str,
     starts: (&str, &str),
 ) -> Result<MemoryShelf, NoMemory> {
-    let mut shelf = shelf_of(alloc, &[("main.wasm", main)])?;
+    let mut shelf = shelf_with_main(alloc, sections)?;
     put_starts(&mut shelf, trace, starts)?;
     Ok(shelf)
 }
@@ -229,9 +229,6 @@ fn a_load_reads_past_its_memory_and_past_all_of_them_before_its_test(
     Ok(())
 }
 
-/// The certificate of no path.
-static NO_PATHS: &[u8] = b"{\"paths\":[],\"weight\":0}";
-
 /// The line of a call that verifies the image.
 const VERIFY: &str = "blade verify i c";
 
@@ -243,7 +240,7 @@ const SAFE: &str = "certificate yes\nstable yes\nconstant-time yes\nsafe yes\n";
 
 /// Whether the lowered program is constant time and yet two runs of it differ.
 fn differs(alloc: Global, shelf: &mut MemoryShelf) -> Result<bool, NoMemory> {
-    shelf.put("c", NO_PATHS)?;
+    shelf.put("c", NO_PATHS.as_bytes())?;
     let lowered = ends(alloc, shelf, LOWER, 0, "commands 17\n")?;
     let verified = ends(alloc, shelf, VERIFY, 1, UNSAFE)?;
     let twin = status_of(alloc, shelf, TWIN)?;
@@ -278,7 +275,7 @@ fn gives_image(
     image: &[u8],
 ) -> Result<bool, NoMemory> {
     let hardened = ends(alloc, shelf, "blade harden i c vault.wasm", 0, report)?;
-    Ok(hardened && holds(shelf, "i", image) && holds(shelf, "c", NO_PATHS))
+    Ok(hardened && holds(shelf, "i", image) && holds(shelf, "c", NO_PATHS.as_bytes()))
 }
 
 /// Whether that holds where it stands there alone.

@@ -1,27 +1,13 @@
-//! Starts that agree in public, and starts that don't.
+//! Starts that agree in public, and starts that don't. By hand: they agree where the arguments at public parameters and the bytes of public memories
+//! behind the patches are equal.
 use bl_base::{List, NoMemory, Patch, Start, Text};
 use bl_cmd::WellFormed;
 use bl_image::decode_image;
 use bl_twin::agree;
 use std::alloc::Global;
 use std::test::Fail;
+use tests_samples::{DEMANDED_IMAGE, GROWTH_IMAGE};
 use tests_starts::is_start;
-
-/// The image of a function of a public parameter, with a public memory of one page.
-static GROWTH: [u8; 78] = [
-    0x42, 0x4C, 0x49, 0x4D, 0x01, 0x00, 0x01, 0x01, 0x02, 0x00, 0x00, 0x01, 0x01, 0x7F, 0x00, 0x01,
-    0x7F, 0x05, 0x09, 0x01, 0x03, 0x6D, 0x2F, 0x66, 0x00, 0x00, 0x00, 0x6B, 0x03, 0x01, 0x02, 0x00,
-    0x00, 0x00, 0x00, 0x4B, 0x04, 0x00, 0x01, 0x00, 0x03, 0x03, 0x00, 0x04, 0x0D, 0x0A, 0x00, 0x00,
-    0x00, 0x05, 0x00, 0x00, 0x00, 0x00, 0x6A, 0x00, 0x00, 0x00, 0x00, 0x01, 0x04, 0x0E, 0x00, 0x00,
-    0x00, 0x05, 0x01, 0xFF, 0xFF, 0xFF, 0xFF, 0x0F, 0x07, 0x00, 0x00, 0x00, 0x05, 0x08,
-];
-
-/// The image of a function of a secret parameter.
-static SECRET: [u8; 41] = [
-    0x42, 0x4C, 0x49, 0x4D, 0x02, 0x00, 0x00, 0x01, 0x01, 0x7F, 0x01, 0x01, 0x7F, 0x03, 0x04, 0x01,
-    0x04, 0x69, 0x64, 0x2F, 0x66, 0x00, 0x01, 0x00, 0x00, 0x00, 0x00, 0x04, 0x08, 0x00, 0x00, 0x00,
-    0x02, 0x00, 0x00, 0x07, 0x00, 0x00, 0x00, 0x02, 0x08,
-];
 
 /// A start of one argument, and of patches of memory 0 of one byte each.
 fn start_of(alloc: Global, argument: u64, patches: &[(u32, u8)]) -> Result<Start, NoMemory> {
@@ -85,9 +71,9 @@ fn differ_in_public(alloc: Global) -> Result<bool, NoMemory> {
     let five = start_of(alloc, 5, &[])?;
     let six = start_of(alloc, 6, &[])?;
     Ok(
-        answers(alloc, &GROWTH, &five, &five, true)?
-            && answers(alloc, &GROWTH, &five, &six, false)?
-            && answers(alloc, &SECRET, &five, &six, true)?,
+        answers(alloc, &GROWTH_IMAGE, &five, &five, true)?
+            && answers(alloc, &GROWTH_IMAGE, &five, &six, false)?
+            && answers(alloc, &DEMANDED_IMAGE, &five, &six, true)?,
     )
 }
 
@@ -101,7 +87,7 @@ fn arguments_agree_at_public_parameters_alone(rt: HostRuntime) -> Result<(), Fai
 fn is_like_none(alloc: Global, patches: &[(u32, u8)], wanted: bool) -> Result<bool, NoMemory> {
     let none = start_of(alloc, 5, &[])?;
     let patched = start_of(alloc, 5, patches)?;
-    answers(alloc, &GROWTH, &none, &patched, wanted)
+    answers(alloc, &GROWTH_IMAGE, &none, &patched, wanted)
 }
 
 #[test]

@@ -1,8 +1,10 @@
-//! Programs that are constant time, and the labels of their variables.
-use crate::labelled::{IDENTITY, KEPT, MULTIPLIED, OPEN, PUBLIC};
+//! Programs that are constant time, and the labels of their variables. By hand: a variable is secret where it is declared so, or a site writes it that reads
+//! a secret or loads from a secret memory.
+use crate::labelled::{KEPT, MULTIPLIED, OPEN, PUBLIC};
 use crate::verdicts::has_labels;
 use bl_base::Label;
 use std::test::Fail;
+use tests_samples::IDENTITY_IMAGE;
 
 /// Short names in a list.
 const P: Label = Label::Public;
@@ -11,7 +13,7 @@ const S: Label = Label::Secret;
 
 #[test]
 fn a_secret_result_that_nobody_demands(rt: HostRuntime) -> Result<(), Fail> {
-    assert!(rt; has_labels(rt.alloc(), &IDENTITY, &[S, S, S])?);
+    assert!(rt; has_labels(rt.alloc(), &IDENTITY_IMAGE, &[S, S, S])?);
     Ok(())
 }
 

@@ -1,4 +1,5 @@
-//! The texts on two runs of eleven directives, of which the first ten are observed alike.
+//! The texts on two runs of eleven directives, of which the first ten are observed alike. They were written by hand, by the rules of `twin` in docs/CLI.md:
+//! the lines that both begin with, and then how many there are, or where and how the runs differ.
 use bl_base::{List, NoMemory};
 use bl_rob::{Observation, Observed};
 use bl_twin::{Comparison, compare};

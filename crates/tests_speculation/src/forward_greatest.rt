@@ -1,4 +1,5 @@
-//! The machine that forwards stores near its greatest inputs, where want of memory could hide.
+//! The machine that forwards stores near its greatest inputs, where want of memory could hide. By hand: no sink reads what is loaded, so two runs are alike
+//! to the last directive.
 use bl_base::{List, NoMemory, Run, Start};
 use bl_cmd::WellFormed;
 use bl_forward::{ForwardVerdict, Fwd, compare_forwarding, forward_safe};

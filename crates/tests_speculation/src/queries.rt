@@ -1,6 +1,6 @@
-//! What the buffer machine says of itself without a step: which directives are enabled, where its front end is, and its entries. A directive that is
-//! enabled is made, or refused for memory alone.
-use crate::room::{INC, start_of};
+//! What the buffer machine says of itself without a step: which directives are enabled, where its front end is, and its entries. By hand: a directive that
+//! is enabled is made, or refused for memory alone, and a fetch goes on behind its command, or to where that jumps.
+use crate::room::start_of;
 use bl_base::{NoMemory, Pos, Start};
 use bl_cmd::WellFormed;
 use bl_image::decode_image;
@@ -8,11 +8,12 @@ use bl_rob::{Directive, Kind, Machine, Observation, Rob, StepError};
 use bl_seq::Layout;
 use std::alloc::Global;
 use std::test::Fail;
+use tests_samples::ADD_ONE_IMAGE;
 use tests_starts::is_start;
 
-/// The program of `INC`; where there is none, that is answered like want of memory.
+/// The program of `ADD_ONE_IMAGE`; where there is none, that is answered like want of memory.
 fn program(alloc: Global) -> Result<WellFormed, NoMemory> {
-    match decode_image(alloc, &INC) {
+    match decode_image(alloc, &ADD_ONE_IMAGE) {
         Ok(program) => Ok(program),
         Err(_) => Err(NoMemory),
     }

@@ -1,19 +1,12 @@
-//! A buffer with room for one entry.
+//! A buffer with room for one entry. How many directives are made is as `oracles/traces.py` prints it.
 use bl_base::{List, NoMemory, Start};
 use bl_cmd::WellFormed;
 use bl_image::decode_image;
 use bl_rob::{Directive, Observation, Observed, Rob};
 use std::alloc::Global;
 use std::test::Fail;
+use tests_samples::ADD_ONE_IMAGE;
 use tests_starts::is_start;
-
-/// The image of a function that adds 1.
-pub(crate) static INC: [u8; 53] = [
-    0x42, 0x4C, 0x49, 0x4D, 0x01, 0x00, 0x00, 0x01, 0x01, 0x7F, 0x00, 0x01, 0x7F, 0x05, 0x06, 0x01,
-    0x07, 0x69, 0x6E, 0x63, 0x2F, 0x69, 0x6E, 0x63, 0x00, 0x04, 0x08, 0x00, 0x00, 0x00, 0x02, 0x00,
-    0x00, 0x00, 0x00, 0x00, 0x03, 0x01, 0x01, 0x00, 0x00, 0x6A, 0x04, 0x00, 0x02, 0x00, 0x03, 0x07,
-    0x00, 0x00, 0x00, 0x04, 0x08,
-];
 
 /// A start of the argument 41.
 pub(crate) fn start_of(alloc: Global) -> Result<Start, NoMemory> {
@@ -60,7 +53,7 @@ fn is_seen(
     made: usize,
     refused: Option<u64>,
 ) -> Result<bool, NoMemory> {
-    match decode_image(alloc, &INC) {
+    match decode_image(alloc, &ADD_ONE_IMAGE) {
         Ok(program) => is_seen_of(alloc, &program, directives, made, refused),
         Err(_) => Ok(false),
     }

@@ -1,55 +1,35 @@
-//! Labels and images of version 2. The images are written by hand from the rules of lowering.
+//! Labels and images of version 2. The images and the reports are written by hand from the rules of lowering and the label rules.
 use bl_base::{List, NoMemory};
 use bl_outside::MemoryShelf;
 use std::alloc::Global;
 use std::test::Fail;
 use tests_calls::{ends, holds, labelled_shelf, put_labelled, stands};
-
-/// A function of type [i32] -> [i32] that gives its parameter.
-const IDENTITY: &[u8] =
-    b"\x01\x06\x01`\x01\x7F\x01\x7F\x03\x02\x01\0\x07\x05\x01\x01f\0\0\x0A\x06\x01\x04\0 \0\x0B";
-
-/// Its image as `id.wasm`, where the parameter is secret and the result demanded.
-const DEMANDED: [u8; 41] = [
-    0x42, 0x4C, 0x49, 0x4D, 0x02, 0x00, 0x00, 0x01, 0x01, 0x7F, 0x01, 0x01, 0x7F, 0x03, 0x04, 0x01,
-    0x04, 0x69, 0x64, 0x2F, 0x66, 0x00, 0x01, 0x00, 0x00, 0x00, 0x00, 0x04, 0x08, 0x00, 0x00, 0x00,
-    0x02, 0x00, 0x00, 0x07, 0x00, 0x00, 0x00, 0x02, 0x08,
-];
-
-/// The same without the demand.
-const SECRET: [u8; 36] = [
-    0x42, 0x4C, 0x49, 0x4D, 0x01, 0x00, 0x00, 0x01, 0x01, 0x7F, 0x01, 0x01, 0x7F, 0x03, 0x04, 0x01,
-    0x04, 0x69, 0x64, 0x2F, 0x66, 0x00, 0x04, 0x08, 0x00, 0x00, 0x00, 0x02, 0x00, 0x00, 0x07, 0x00,
-    0x00, 0x00, 0x02, 0x08,
-];
+use tests_samples::{DEMANDED_IMAGE, IDENTITY, IDENTITY_IMAGE, NO_PATHS};
 
 /// The bytes of the label section behind its name, the report, and the image.
 static CASES: [(&[u8], &str, &[u8]); 3] = [
     (
         b"\x02\x02\0\0\0\x03\0\0",
         "functions 1\ncommands 11\nsites 2\nprotects 0 weight 0\nconstant-time no parameter 0 0 through 8 end 9\n",
-        &DEMANDED,
+        &DEMANDED_IMAGE,
     ),
     (
         b"\x01\x01\0\0\0",
         "functions 1\ncommands 11\nsites 2\nprotects 0 weight 0\nconstant-time yes\n",
-        &SECRET,
+        &IDENTITY_IMAGE,
     ),
     (
         b"\x02\x01\0\0\0",
         "functions 1\ncommands 11\nsites 2\nprotects 0 weight 0\nconstant-time yes\n",
-        &SECRET,
+        &IDENTITY_IMAGE,
     ),
 ];
 
-/// The certificate of no path.
-const CERTIFICATE: &str = "{\"paths\":[],\"weight\":0}";
-
 /// Puts that function as `id.wasm`, a start file and the certificate of no path on a shelf.
 fn put_identity(alloc: Global, shelf: &mut MemoryShelf, labels: &[u8]) -> Result<(), NoMemory> {
-    put_labelled(alloc, shelf, "id.wasm", IDENTITY, labels)?;
+    put_labelled(alloc, shelf, "id.wasm", &IDENTITY, labels)?;
     shelf.put("s", b"arg 5")?;
-    shelf.put("e", CERTIFICATE.as_bytes())
+    shelf.put("e", NO_PATHS.as_bytes())
 }
 
 /// A shelf with those.
@@ -67,7 +47,7 @@ fn hardens_and_runs(
     image: &[u8],
 ) -> Result<bool, NoMemory> {
     let reported = ends(alloc, shelf, "blade harden i c id.wasm", 0, report)?;
-    let kept = holds(shelf, "i", image) && holds(shelf, "c", CERTIFICATE.as_bytes());
+    let kept = holds(shelf, "i", image) && holds(shelf, "c", NO_PATHS.as_bytes());
     let ran = ends(alloc, shelf, "blade run i id/f s", 0, "returned i32 5\n")?;
     Ok(reported && kept && ran)
 }
@@ -138,16 +118,16 @@ const SAFE: &str = "certificate yes\nstable yes\nconstant-time yes\nsafe yes\n";
 
 #[test]
 fn a_chain_does_not_make_verify_refuse(rt: HostRuntime) -> Result<(), Fail> {
-    assert!(rt; answers(rt.alloc(), &DEMANDED, "blade verify i e", 0, NOT_SAFE)?);
-    assert!(rt; answers(rt.alloc(), &SECRET, "blade verify i e", 0, SAFE)?);
+    assert!(rt; answers(rt.alloc(), &DEMANDED_IMAGE, "blade verify i e", 0, NOT_SAFE)?);
+    assert!(rt; answers(rt.alloc(), &IDENTITY_IMAGE, "blade verify i e", 0, SAFE)?);
     Ok(())
 }
 
 /// The image with the demand, of a result that does not exist.
 fn demanded_of_no_result(alloc: Global) -> Result<Vec<u8>, NoMemory> {
-    let mut image = DEMANDED[..25].to_vec(alloc)?;
+    let mut image = DEMANDED_IMAGE[..25].to_vec(alloc)?;
     image.push(0x01)?;
-    image.extend_from_slice(&DEMANDED[26..])?;
+    image.extend_from_slice(&DEMANDED_IMAGE[26..])?;
     Ok(image)
 }
 

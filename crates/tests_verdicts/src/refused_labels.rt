@@ -1,4 +1,4 @@
-//! Label sections that break a rule.
+//! Label sections that break a rule, which was read off by hand: each breaks the one that stands above it, of those in FORMATS.
 use bl_base::NoMemory;
 use bl_outside::MemoryShelf;
 use std::alloc::Global;

@@ -1,29 +1,13 @@
-//! The lines are computed by hand from the rules of certificates, the transient rules and the label rules.
+//! The lines are computed by hand from the rules of certificates, the transient rules and the label rules; `examples/formats/read.py`, which was written
+//! from FORMATS alone, gives the same verdicts.
 use bl_base::NoMemory;
 use bl_outside::MemoryShelf;
 use std::alloc::Global;
 use std::test::Fail;
-use tests_calls::{LOADS, LOADS_IMAGE, ends, holds, shelf_of, status_of};
-
-/// `LOADS_IMAGE` without a protect: the mark of the load at 11 is 00.
-const UNPROTECTED: [u8; 86] = [
-    0x42, 0x4C, 0x49, 0x4D, 0x01, 0x00, 0x01, 0x01, 0x80, 0x02, 0x00, 0x00, 0x01, 0x01, 0x7F, 0x00,
-    0x01, 0x7F, 0x07, 0x0A, 0x01, 0x03, 0x6D, 0x2F, 0x66, 0x00, 0x04, 0x08, 0x00, 0x00, 0x00, 0x03,
-    0x00, 0x01, 0x00, 0x00, 0x01, 0x04, 0x00, 0x03, 0x00, 0x00, 0x01, 0x04, 0x03, 0x00, 0x04, 0x03,
-    0x0B, 0x01, 0x00, 0x28, 0x00, 0x05, 0x00, 0x00, 0x03, 0x00, 0x00, 0x01, 0x06, 0x00, 0x05, 0x00,
-    0x00, 0x01, 0x04, 0x03, 0x00, 0x06, 0x03, 0x0E, 0x01, 0x00, 0x28, 0x00, 0x07, 0x00, 0x00, 0x05,
-    0x07, 0x00, 0x00, 0x00, 0x07, 0x08,
-];
-
-/// A secret parameter that is divided by 3, at 7, before Ret. Nothing is exported.
-const DIVIDED: [u8; 24] = [
-    0x42, 0x4C, 0x49, 0x4D, 0x01, 0x00, 0x00, 0x01, 0x01, 0x7F, 0x01, 0x00, 0x02, 0x02, 0x00, 0x00,
-    0x00, 0x6E, 0x01, 0x00, 0x00, 0x01, 0x03, 0x08,
-];
+use tests_calls::{ends, holds, shelf_of, status_of};
+use tests_samples::{DIVIDED_IMAGE, LOADS, LOADS_IMAGE, LOWERED_LOADS_IMAGE, NO_PATHS};
 
 const CERTIFICATE: &str = "{\"paths\":[{\"amount\":1,\"sink\":14,\"sites\":[11]}],\"weight\":1}";
-
-const EMPTY: &str = "{\"paths\":[],\"weight\":0}";
 
 /// An image, the text of a certificate, and the status and the text of `verify`.
 type Case = (&'static [u8], &'static str, u8, &'static str);
@@ -42,14 +26,14 @@ static CASES: [Case; 8] = [
         "certificate no 4 11\nstable yes\nconstant-time yes\nsafe yes\n",
     ),
     (
-        &UNPROTECTED,
+        &LOWERED_LOADS_IMAGE,
         CERTIFICATE,
         1,
         "certificate no 3 0\nstable no 13\nconstant-time yes\nsafe no\n",
     ),
     (
         &LOADS_IMAGE,
-        EMPTY,
+        NO_PATHS,
         1,
         "certificate no 5 0\nstable yes\nconstant-time yes\nsafe yes\n",
     ),
@@ -67,15 +51,15 @@ static CASES: [Case; 8] = [
     ),
     // No path and no protect add up, and yet the value of the load reaches a test.
     (
-        &UNPROTECTED,
-        EMPTY,
+        &LOWERED_LOADS_IMAGE,
+        NO_PATHS,
         1,
         "certificate yes\nstable no 13\nconstant-time yes\nsafe no\n",
     ),
     // The status is by the first two lines alone; the chain passes no position.
     (
-        &DIVIDED,
-        EMPTY,
+        &DIVIDED_IMAGE,
+        NO_PATHS,
         0,
         "certificate yes\nstable yes\nconstant-time no parameter 0 0 end 7\nsafe no\n",
     ),

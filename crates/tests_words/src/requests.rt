@@ -1,4 +1,4 @@
-//! What the words of calls ask for.
+//! What the words of calls ask for, read off by hand from the rules of words in docs/CLI.md.
 use bl_base::{NoMemory, Role};
 use bl_words::{
     HardenWords, InterpWords, JoinWords, LowerWords, PartWords, PredictWords, Request, RunWords,

@@ -1,4 +1,4 @@
-//! Words that ask for nothing, and names of modules.
+//! Words that ask for nothing, and names of modules, read off by hand from the rules of words in docs/CLI.md.
 use bl_base::NoMemory;
 use std::alloc::Global;
 use std::test::Fail;
