@@ -1,5 +1,5 @@
 -- The command `join` keeps the laws; what is said where it is done.
-use Rattle.std.proofs.Common.{◌≡◌, ℕ, List, [], ◌∷◌, refl, ap, sym, ◌∙◌, subst, map, arith, inl, inr}
+use Rattle.std.proofs.Common.{◌≡◌, ℕ, List, [], ◌∷◌, refl, ap, sym, ◌∙◌, subst, arith, inl, inr}
 use Rattle.bl_cmd.specs.Programs.{IsProgram}
 use Rattle.bl_cmd.specs.Rules.{IsWellFormed}
 use Rattle.bl_cmd.specs.Sites.{is_protected}
@@ -7,7 +7,6 @@ use Rattle.bl_cmd.specs.declared.definitions.ProgramParts.{ProgramParts as Progr
 use Rattle.bl_iface.specs.JoinedProgram.{CanJoin, joined}
 use Rattle.bl_iface.specs.InterfaceFunctions.{Matches}
 use Rattle.bl_iface.specs.declared.iface.Iface.{Iface}
-use Rattle.bl_iface.specs.declared.iface.Role.TheVariants.{Client, Library}
 use Rattle.bl_iface.proofs.JoinedTyping.{joined_flows, joint}
 use Rattle.bl_iface.proofs.JoinedWellFormed.{joined_well}
 use Rattle.bl_image.specs.Image.{Image}
@@ -15,7 +14,6 @@ use Rattle.bl_transient.specs.Transient.{Passes}
 use Rattle.bl_words.specs.Requests.{JoinRequest}
 use Rattle.bl_build.specs.BuildStages.{Built, IsSized}
 use Rattle.bl_build.specs.EntryStages.{IsImaged}
-use Rattle.bl_build.specs.InterfaceStages.{IsFileOf}
 use Rattle.bl_build.specs.JoinStages.{BothPass, Pair, Sides, Union, Unites, are_joined, client_fails, fails, joining, library_fails, pair_of, sides_of, whole}
 use Rattle.bl_build.proofs.InterfaceLemmas.{joining_lawful}
 use Rattle.bl_build.proofs.InterfaceTotal.{joining_total}
