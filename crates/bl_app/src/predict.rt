@@ -4,7 +4,7 @@ ghost use Rattle.std.specs.Prelude.{◌≡◌, ◌↔◌, ◌++◌, None, IfOk, 
 ghost use Rattle.std.specs.Fmt.{decimal};
 ghost use Rattle.bl_predict.specs.Drives.{IsDriven};
 ghost use Rattle.bl_app.specs.ForwardJob.{IsSafe};
-ghost use Rattle.bl_app.specs.PredictJob.{PredictPlans, alike_text, driven_of, is_verdict_alike, met_by, predict_job};
+ghost use Rattle.bl_app.specs.PredictJob.{PredictPlans, alike_text, driven_of, is_verdict_safe, met_by, predict_job};
 ghost use Rattle.bl_job.specs.Jobs.{AreRead};
 ghost use Rattle.bl_words.specs.Words.{predict_in};
 ghost use Rattle.bl_job.specs.WorkAnswers.{IsWork, plan_in, contents_in};
@@ -69,9 +69,9 @@ fn tell_driven<'a>(
     requires driven { IsDriven prepared.now.program (driven_of words.now.steps (prepared_in prepared.now)) driven.now }
     ensures { IfOk result (λ plan. PredictPlans words.now.steps words.now.trace.now (prepared_in prepared.now) (plan_in plan)) }
 {
-    let alike = is_alike(alloc, &prepared.program)?;
+    let safe = is_safe(alloc, &prepared.program)?;
     let mut text = met_line(alloc, driven)?;
-    text.extend_from_slice(alike_line(alike))?;
+    text.extend_from_slice(safe_line(safe))?;
     let outcome = plain_text(alloc, prepared, words.steps, &driven.run)?;
     text.extend_from_slice(&outcome)?;
     let trace = trace_text(alloc, driven.trace.as_slice())?;
@@ -85,25 +85,25 @@ fn tell_driven<'a>(
 }
 
 /// Whether the program is safe.
-fn is_alike(alloc: Global, program: &WellFormed) -> Result<bool, NoMemory>
-    ensures { IfOk result (λ alike. IsTrue alike ↔ IsSafe program.now) }
+fn is_safe(alloc: Global, program: &WellFormed) -> Result<bool, NoMemory>
+    ensures { IfOk result (λ safe. IsTrue safe ↔ IsSafe program.now) }
 {
     let verdict = assess(alloc, program)?;
-    Ok(is_verdict_alike(&verdict))
+    Ok(is_verdict_safe(&verdict))
 }
 
 /// Whether a verdict is that a program is safe.
-fn is_verdict_alike(verdict: &Verdict) -> bool
-    ensures { result ≡ is_verdict_alike verdict.now }
+fn is_verdict_safe(verdict: &Verdict) -> bool
+    ensures { result ≡ is_verdict_safe verdict.now }
 {
     matches!(verdict, Verdict::Safe)
 }
 
 /// The line on whether a program is safe: with a yes other secrets give the same trace and counts; with a no nothing is said of them.
-fn alike_line(alike: bool) -> &'static [u8]
-    ensures { result.now ≡ alike_text alike }
+fn safe_line(safe: bool) -> &'static [u8]
+    ensures { result.now ≡ alike_text safe }
 {
-    if alike {
+    if safe {
         b"alike yes\n".as_slice()
     } else {
         b"alike no\n".as_slice()
