@@ -1,6 +1,5 @@
 -- The command `join` keeps the laws; what is said where it is done.
-use Rattle.std.proofs.Common.{◌≡◌, ℕ, List, [], ◌∷◌, refl, ap, sym, ◌∙◌, subst, map, arith, inl, inr}
-use Rattle.bl_base.specs.declared.names.Role.TheVariants.{Client, Library}
+use Rattle.std.proofs.Common.{◌≡◌, ℕ, List, [], ◌∷◌, refl, ap, sym, ◌∙◌, subst, arith, inl, inr}
 use Rattle.bl_cmd.specs.Programs.{IsProgram}
 use Rattle.bl_cmd.specs.Rules.{IsWellFormed}
 use Rattle.bl_cmd.specs.Sites.{is_protected}
@@ -15,7 +14,6 @@ use Rattle.bl_transient.specs.Transient.{Passes}
 use Rattle.bl_words.specs.Requests.{JoinRequest}
 use Rattle.bl_build.specs.BuildStages.{Built, IsSized}
 use Rattle.bl_build.specs.EntryStages.{IsImaged}
-use Rattle.bl_build.specs.InterfaceStages.{IsFileOf}
 use Rattle.bl_build.specs.JoinStages.{BothPass, Pair, Sides, Union, Unites, are_joined, client_fails, fails, joining, library_fails, pair_of, sides_of, whole}
 use Rattle.bl_build.proofs.InterfaceLemmas.{joining_lawful}
 use Rattle.bl_build.proofs.InterfaceTotal.{joining_total}

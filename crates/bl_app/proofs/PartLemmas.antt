@@ -1,5 +1,5 @@
 -- The command `part` keeps the laws; what is said where it is done.
-use Rattle.std.proofs.Common.{◌≡◌, ℕ, Bool, List, ◌∷◌, Result, Ok, Err, refl, ap, sym, ◌∙◌, subst, map, arith, inl, length}
+use Rattle.std.proofs.Common.{◌≡◌, ℕ, Bool, List, ◌∷◌, Result, Ok, Err, refl, ap, sym, ◌∙◌, subst, map, arith, inl}
 use Rattle.bl_base.specs.declared.names.Role.{Role}
 use Rattle.bl_base.specs.declared.names.Role.TheVariants.{Client, Library}
 use Rattle.bl_cmd.specs.Sites.{is_protected}

@@ -1,5 +1,5 @@
 -- The command `predict` keeps the laws; what is said where it is done; and `spec` follows the trace file that it keeps.
-use Rattle.std.proofs.Common.{◌≡◌, ◌↔◌, ◌∙◌, ◌+◌, ◌*◌, ◌^◌, ◌%◌, ◌<◌, ◌≤◌, ◌++◌, append_assoc, ℕ, Bool, true, false, List, [], ◌∷◌, codes, drop, get_or, length, map, Option, Some, None, Ok, slice_get, refl, ap, sym, subst, arith, inl, inr, IsTrue}
+use Rattle.std.proofs.Common.{◌≡◌, ◌↔◌, ◌∙◌, ◌+◌, ◌*◌, ◌^◌, ◌%◌, ◌<◌, ◌≤◌, ◌++◌, append_assoc, ℕ, Bool, true, false, List, [], ◌∷◌, drop, get_or, length, map, Option, Some, None, Ok, slice_get, refl, ap, sym, subst, arith, inl, inr, IsTrue}
 use Rattle.std.specs.Fmt.{decimal}
 use Rattle.std.specs.List.{All, flat_map}
 use Rattle.std.proofs.lemmas.Bool.{false≢true}
@@ -8,14 +8,12 @@ use Rattle.std.proofs.lemmas.List.{length-append}
 use Rattle.std.proofs.lemmas.List.Elements.{All-head, All-tail, length_all_zip}
 use Rattle.std.proofs.Math.Seq.{drop-append_seam}
 use Rattle.bl_base.specs.Fits.{Fits}
-use Rattle.bl_base.specs.Quantity.{limit_of}
 use Rattle.bl_base.specs.Runs.{Outcome, outcome_of, returned, trapped}
-use Rattle.bl_base.specs.declared.quantity.Quantity.TheVariants as quantity
 use Rattle.bl_base.specs.declared.start.Start.{Start}
 use Rattle.bl_base.proofs.Classical.{either}
 use Rattle.bl_text.proofs.LineTexts.{all_read, lines_counted}
 use Rattle.bl_text.specs.Lines.{lines_of}
-use Rattle.bl_cmd.specs.Outcomes.{Agree, IsStart, opening as plain_opening, plain}
+use Rattle.bl_cmd.specs.Outcomes.{Agree, IsStart, opening as plain_opening}
 use Rattle.bl_cmd.specs.Programs.{IsProgram}
 use Rattle.bl_cmd.specs.Rules.{IsWellFormed}
 use Rattle.bl_cmd.specs.declared.definitions.ProgramParts.{ProgramParts as Program}
@@ -51,7 +49,7 @@ use Rattle.bl_job.proofs.StagedJobLemmas.{IsStagedCommand, one_done}
 use Rattle.bl_app.specs.RunJob.{plain_text}
 use Rattle.bl_app.specs.ForwardJob.{BeginsWith, IsSafe}
 use Rattle.bl_app.specs.Outcomes.{outcome_status}
-use Rattle.bl_app.specs.PredictJob.{IsFollowed, PredictMeans, PredictPlans, alike_text, drive_outcome, driven_of, following, met, met_by, met_text, predict_job, predict_plan, predict_staged, with_start}
+use Rattle.bl_app.specs.PredictJob.{IsFollowed, PredictMeans, PredictPlans, alike_text, drive_outcome, driven_of, following, met, met_by, met_text, predict_job, predict_plan, predict_staged}
 use Rattle.bl_app.specs.SpecJob.{end_text, last_text, seen_of, spec_job, spec_plan, spec_staged, spec_status}
 use Rattle.bl_app.proofs.RunLemmas.{deed_of_run, entering_lawful, entering_total}
 use Rattle.bl_app.proofs.SpecLemmas.{ended_so, spec_staged_is}
@@ -61,33 +59,33 @@ use Rattle.bl_app.proofs.TwinLemmas.{one_bool}
 
 pub one_predict_plan : (turns : ℕ) (word : List ℕ) (entered : Entered) (p q : Plan) → PredictPlans turns word entered p → PredictPlans turns word entered q → p ≡ q
 one_predict_plan turns word entered p q h k =
-    h.is_plan ∙ ap (predict_plan turns word entered) (one_bool (IsSafe entered.entry.program) h.alike k.alike h.is_alike k.is_alike) ∙ sym k.is_plan
+    h.is_plan ∙ ap (predict_plan turns word entered) (one_bool (IsSafe entered.entry.program) h.safe k.safe h.is_safe k.is_safe) ∙ sym k.is_plan
 
 some_predict_plan : (turns : ℕ) (word : List ℕ) (entered : Entered) → ((plan : Plan) → PredictPlans turns word entered plan → ⊥) → ⊥
 some_predict_plan turns word entered none =
     either (IsSafe entered.entry.program) (λ cases. elim cases as (λ _. ⊥) [
-      | inl safe ↦ none _ (record { alike = true; is_alike = (λ e. safe, λ _. refl); is_plan = refl })
-      | inr unsafe ↦ none _ (record { alike = false; is_alike = (λ e. absurd (false≢true e), λ safe. absurd (unsafe safe)); is_plan = refl })
+      | inl safe ↦ none _ (record { safe = true; is_safe = (λ e. safe, λ _. refl); is_plan = refl })
+      | inr unsafe ↦ none _ (record { safe = false; is_safe = (λ e. absurd (false≢true e), λ safe. absurd (unsafe safe)); is_plan = refl })
     ])
 
 -- what is planned by what a drive has come to
-pub planned_by : (turns : ℕ) (word : List ℕ) (entered : Entered) (driven : Driven) → IsDriven entered.entry.program (driven_of turns entered) driven → (alike : Bool)
-    → IsTrue alike ↔ IsSafe entered.entry.program → (plan : Plan)
+pub planned_by : (turns : ℕ) (word : List ℕ) (entered : Entered) (driven : Driven) → IsDriven entered.entry.program (driven_of turns entered) driven → (safe : Bool)
+    → IsTrue safe ↔ IsSafe entered.entry.program → (plan : Plan)
     → plan
     ≡ (record {
       status = outcome_status (outcome_of driven.run);
       keeps = (word, trace_text driven.trace) ∷ [];
-      text = met_by driven ++ alike_text alike ++ plain_text entered turns (outcome_of driven.run);
+      text = met_by driven ++ alike_text safe ++ plain_text entered turns (outcome_of driven.run);
     })
     → PredictPlans turns word entered plan
-planned_by turns word entered driven is alike is_alike plan e = record {
-  alike = alike;
-  is_alike = is_alike;
+planned_by turns word entered driven is safe is_safe plan e = record {
+  safe = safe;
+  is_safe = is_safe;
   is_plan = e
       ∙ (λ i. record {
         status = outcome_status (is.run i);
         keeps = (word, trace_text (is.trace i)) ∷ [];
-        text = met_text (length (is.trace i)) (is.rollbacks i) (is.hits i) (is.misses i) ++ alike_text alike ++ plain_text entered turns (is.run i);
+        text = met_text (length (is.trace i)) (is.rollbacks i) (is.hits i) (is.misses i) ++ alike_text safe ++ plain_text entered turns (is.run i);
       });
 }
 
@@ -128,15 +126,15 @@ module _ (export start image : List ℕ) (entered : Entered) (prepared : (enteri
 
 -- ---- what is meant
 
-says_yes : (alike : Bool) (behind rest : List ℕ) → alike_text alike ++ behind ≡ alike_text true ++ rest → alike ≡ true
+says_yes : (safe : Bool) (behind rest : List ℕ) → alike_text safe ++ behind ≡ alike_text true ++ rest → safe ≡ true
 says_yes true behind rest e = refl
 says_yes false behind rest e = let differs = ap (λ l. get_or l 6 0) e in absurd (omega (arith, differs))
 
-says_behind : (front : List ℕ) (alike : Bool) (behind rest : List ℕ) → front ++ alike_text alike ++ behind ≡ front ++ alike_text true ++ rest → alike ≡ true
-says_behind front alike behind rest e =
-    says_yes alike behind rest
-    (sym (drop-append_seam front (alike_text alike ++ behind))
-    ∙ ap (drop (length front)) (sym (append_assoc front (alike_text alike) behind) ∙ e ∙ append_assoc front (alike_text true) rest)
+says_behind : (front : List ℕ) (safe : Bool) (behind rest : List ℕ) → front ++ alike_text safe ++ behind ≡ front ++ alike_text true ++ rest → safe ≡ true
+says_behind front safe behind rest e =
+    says_yes safe behind rest
+    (sym (drop-append_seam front (alike_text safe ++ behind))
+    ∙ ap (drop (length front)) (sym (append_assoc front (alike_text safe) behind) ∙ e ∙ append_assoc front (alike_text true) rest)
     ∙ drop-append_seam front (alike_text true ++ rest))
 
 module _ (turns : ℕ) (word : List ℕ) (entered : Entered) (plan : Plan) (h : PredictPlans turns word entered plan) where
@@ -146,16 +144,16 @@ module _ (turns : ℕ) (word : List ℕ) (entered : Entered) (plan : Plan) (h : 
   abbrev Alike : Type 0
   Alike = BeginsWith (met (driven_of turns entered) ++ alike_text true) plan.text
 
-  text_is : plan.text ≡ met (driven_of turns entered) ++ alike_text h.alike ++ plain_text entered turns (drive_outcome turns entered)
+  text_is : plan.text ≡ met (driven_of turns entered) ++ alike_text h.safe ++ plain_text entered turns (drive_outcome turns entered)
   text_is = ap (λ p. p.text) h.is_plan
 
   safe_by : Alike → IsSafe entered.entry.program
   safe_by begins =
-      h.is_alike.0 (says_behind (met (driven_of turns entered)) h.alike (plain_text entered turns (drive_outcome turns entered)) begins.0 (sym text_is ∙ begins.1))
+      h.is_safe.0 (says_behind (met (driven_of turns entered)) h.safe (plain_text entered turns (drive_outcome turns entered)) begins.0 (sym text_is ∙ begins.1))
 
   alike_by : IsSafe entered.entry.program → Alike
   alike_by safe =
-      (_, text_is ∙ ap (λ a. met (driven_of turns entered) ++ alike_text a ++ plain_text entered turns (drive_outcome turns entered)) (h.is_alike.1 safe))
+      (_, text_is ∙ ap (λ a. met (driven_of turns entered) ++ alike_text a ++ plain_text entered turns (drive_outcome turns entered)) (h.is_safe.1 safe))
 
   assessed_so : (verdict : Verdict) → Assesses entered.entry.program verdict → verdict ≡ Safe ↔ Alike
   assessed_so Safe a = (λ e. alike_by (a.0, a.1), λ begins. refl)
@@ -296,7 +294,7 @@ followed request within image start told h =
       entered = entered;
       passes = prepared;
       status = ap (λ p. p.status) h.plans.is_plan;
-      told_last = (met drive ++ alike_text h.plans.alike, ap (λ p. p.text) h.plans.is_plan);
+      told_last = (met drive ++ alike_text h.plans.safe, ap (λ p. p.text) h.plans.is_plan);
       said_last = (
         flat_map observation_text (seen_of s).made,
         λ i. flat_map observation_text (seen_of s).made ++ last_text entered (ended i) (took.enabled i),

@@ -18,7 +18,7 @@ use Rattle.bl_app.specs.PartJob.{interface_read}
 use Rattle.bl_build.specs.BuildStages.{Built}
 use Rattle.bl_build.specs.EntryStages.{IsImaged}
 use Rattle.bl_build.specs.InterfaceStages.{IsFileOf}
-use Rattle.bl_build.specs.JoinStages.{BothPass, ClientFails, LibraryFails, ClientPasses, Sides, Union, client_side, fails, joining, library_side, whole}
+use Rattle.bl_build.specs.JoinStages.{BothPass, ClientFails, LibraryFails, ClientPasses, Sides, Union, fails, joining, whole}
 use Rattle.bl_job.specs.Jobs.{Job, Plan, saying}
 use Rattle.bl_job.specs.StagedJobs.{Reading, Staged, all_read, contents_stage, file, others, staged_job}
 use Rattle.bl_job.specs.declared.status.Status.TheVariants.{Done, No}

@@ -1,5 +1,5 @@
 -- `predict`: its job, and what is said where it is done.
-use Rattle.std.specs.Prelude.{◌≡◌, ◌↔◌, ◌≤◌, ℕ, Bool, true, false, IsTrue, List, [], ◌∷◌, ◌++◌, codes, length, Option, Some, None}
+use Rattle.std.specs.Prelude.{◌≡◌, ◌↔◌, ◌≤◌, ℕ, Bool, true, false, IsTrue, List, [], ◌∷◌, ◌++◌, codes, length, Option, Some}
 use Rattle.std.specs.Fmt.{decimal}
 use Rattle.bl_base.specs.Quantity.{limit_of}
 use Rattle.bl_base.specs.Runs.{Outcome}
@@ -62,26 +62,26 @@ abbrev pub alike_text : Bool → List ℕ
 alike_text true = line (codes "alike yes")
 alike_text false = line (codes "alike no")
 
-abbrev pub is_verdict_alike : Verdict → Bool
-is_verdict_alike Safe = true
-is_verdict_alike (NotConstantTime chain) = false
-is_verdict_alike (NotStable position) = false
+abbrev pub is_verdict_safe : Verdict → Bool
+is_verdict_safe Safe = true
+is_verdict_safe (NotConstantTime chain) = false
+is_verdict_safe (NotStable position) = false
 
 -- ---- the command
 
 -- keeping the trace file of what was chosen under its name, and printing what was met, whether the program is safe, so that other secrets give the same,
 -- and the outcome
 abbrev pub predict_plan : ℕ → List ℕ → Entered → Bool → Plan
-predict_plan turns word entered alike = record {
+predict_plan turns word entered safe = record {
   status = outcome_status (drive_outcome turns entered);
   keeps = (word, trace_text (driven_of turns entered).trace) ∷ [];
-  text = met (driven_of turns entered) ++ alike_text alike ++ plain_text entered turns (drive_outcome turns entered);
+  text = met (driven_of turns entered) ++ alike_text safe ++ plain_text entered turns (drive_outcome turns entered);
 }
 
 pub record PredictPlans (turns : ℕ) (word : List ℕ) (entered : Entered) (plan : Plan) : Type 0 where
-  pub alike : Bool
-  pub is_alike : IsTrue alike ↔ IsSafe entered.entry.program
-  pub is_plan : plan ≡ predict_plan turns word entered alike
+  pub safe : Bool
+  pub is_safe : IsTrue safe ↔ IsSafe entered.entry.program
+  pub is_plan : plan ≡ predict_plan turns word entered safe
 
 -- the same function with another start
 abbrev pub with_start : Entered → Start → Entered

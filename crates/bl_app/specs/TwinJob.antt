@@ -1,6 +1,5 @@
 -- `twin`: its job, and what is said where it is done.
 use Rattle.std.specs.Prelude.{◌≡◌, ◌↔◌, Bool, IsTrue, [], ◌∷◌}
-use Rattle.bl_base.specs.declared.start.Start.{Start}
 use Rattle.bl_cmd.specs.Outcomes.{Agree}
 use Rattle.bl_graph.specs.Labels.{ConstantTime}
 use Rattle.bl_rob.specs.Observations.{Observed, observed}
@@ -17,11 +16,7 @@ use Rattle.bl_app.specs.SpecJob.{seen_of, trace_read}
 use Rattle.bl_job.specs.StagedJobs.{Staged, all_read, file, staged_job}
 use Rattle.bl_job.specs.declared.status.Status.{Status}
 use Rattle.bl_job.specs.declared.status.Status.TheVariants.{Done, No, Stuck}
-use Rattle.bl_build.specs.TraceStages.{Speculated, Twinned, entry_of, twinning}
-
--- a function of a program, a start of it, directives, and another start
-abbrev pub twinned_in : Speculated → Start → Twinned
-twinned_in speculated other = record { speculated = speculated; other = other }
+use Rattle.bl_build.specs.TraceStages.{Twinned, entry_of, twinning}
 
 -- ---- what is observed
 

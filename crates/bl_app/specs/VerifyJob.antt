@@ -4,12 +4,10 @@ use Rattle.bl_base.specs.Quantity.{limit_of}
 use Rattle.bl_base.specs.declared.number.Pos.{Pos}
 use Rattle.bl_base.specs.declared.quantity.Quantity.TheVariants as quantity
 use Rattle.bl_cmd.specs.Sites.{is_protected}
-use Rattle.bl_cmd.specs.declared.definitions.ProgramParts.{ProgramParts as Program}
 use Rattle.bl_ct.specs.Verdicts.{Judges as JudgesLabels, chain_in}
 use Rattle.bl_ct.specs.declared.verdict.CtVerdict.{CtVerdict}
 use Rattle.bl_graph.specs.Certificates.{Certifies}
 use Rattle.bl_graph.specs.Labels.{ConstantTime}
-use Rattle.bl_graph.specs.declared.certificate.Certificate.{Certificate}
 use Rattle.bl_report.specs.Reports.{constant_time_text}
 use Rattle.bl_report.specs.Verdicts.{certificate_line, leak_in, leak_line, verdicts_of, verdicts_text}
 use Rattle.bl_rob.specs.Observations.{HasEqualObservations}
@@ -43,10 +41,6 @@ pub record Verdicts : Type 0 where
   pub rules : CertVerdict
   pub flow : FlowVerdict
   pub labels : CtVerdict
-
--- a program and a certificate
-abbrev pub certified_in : Program → Certificate → Certified
-certified_in program certificate = record { program = program; certificate = certificate }
 
 -- the verdicts are these of the program with its own protects
 pub record AreVerdicts (certified : Certified) (verdicts : Verdicts) : Type 0 where

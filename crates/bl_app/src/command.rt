@@ -12,18 +12,19 @@ ghost use Rattle.bl_job.specs.WorkAnswers.{IsWork, read_in, contents_in};
 use crate::forward::forward;
 use crate::generate::generate;
 use crate::harden::{harden, harden_reads};
-use crate::interp::{interp_reads, interpret};
-use crate::join::{join, join_reads};
+use crate::interp::interpret;
+use crate::join::join;
 use crate::lower::lower;
 use crate::module::module_reads;
-use crate::part::{part, part_reads};
-use crate::predict::{predict, predict_reads};
-use crate::run::{execute, run_reads};
-use crate::spec::{spec_reads, speculate};
-use crate::twin::{twin, twin_reads};
-use crate::verify::{verify, verify_reads};
+use crate::part::part;
+use crate::predict::predict;
+use crate::run::execute;
+use crate::spec::speculate;
+use crate::twin::twin;
+use crate::verify::verify;
 use bl_base::NoMemory;
-use bl_job::{Content, Plan, Read, WorkError};
+use bl_base::Quantity::{Certificate, Image, Interface, Start, Trace};
+use bl_job::{Content, Plan, Read, WorkError, list_reads};
 use bl_words::Request;
 use std::alloc::Global;
 
@@ -33,15 +34,46 @@ pub fn reads_of<'a>(alloc: Global, request: &Request<'a>) -> Result<Vec<Read<'a>
 {
     match request {
         Request::Harden(words) => harden_reads(alloc, words),
-        Request::Lower(words) => module_reads(alloc, words.modules.as_slice()),
-        Request::Interp(words) => interp_reads(alloc, words),
-        Request::Run(words) => run_reads(alloc, words),
-        Request::Spec(words) => spec_reads(alloc, words),
-        Request::Twin(words) | Request::Forward(words) => twin_reads(alloc, words),
-        Request::Verify(words) => verify_reads(alloc, words),
-        Request::Predict(words) => predict_reads(alloc, words),
-        Request::Part(words) => part_reads(alloc, words),
-        Request::Join(words) => join_reads(alloc, words),
+        Request::Lower(words) => module_reads(alloc, &[], words.modules.as_slice()),
+        Request::Interp(words) => {
+            module_reads(alloc, &[(words.start, Start)], words.modules.as_slice())
+        }
+        Request::Part(words) => {
+            module_reads(alloc, &[(words.iface, Interface)], words.modules.as_slice())
+        }
+        Request::Run(words) => list_reads(alloc, &[(words.image, Image), (words.start, Start)]),
+        Request::Predict(words) => list_reads(alloc, &[(words.image, Image), (words.start, Start)]),
+        Request::Spec(words) => list_reads(
+            alloc,
+            &[
+                (words.image, Image),
+                (words.trace, Trace),
+                (words.start, Start),
+            ],
+        ),
+        Request::Twin(words) | Request::Forward(words) => list_reads(
+            alloc,
+            &[
+                (words.image, Image),
+                (words.trace, Trace),
+                (words.start, Start),
+                (words.other_start, Start),
+            ],
+        ),
+        Request::Verify(words) => {
+            list_reads(
+                alloc,
+                &[(words.image, Image), (words.certificate, Certificate)],
+            )
+        }
+        Request::Join(words) => list_reads(
+            alloc,
+            &[
+                (words.iface, Interface),
+                (words.client, Image),
+                (words.library, Image),
+            ],
+        ),
         Request::Gen(_) => Ok(Vec::new(alloc)),
     }
 }

@@ -1,21 +1,18 @@
 //! `forward`: from the bytes of an image, a trace file and two start files to whether the program is safe where stores are forwarded, and
 //! how the two runs are observed there, side by side.
 ghost use Rattle.std.specs.Prelude.{◌≡◌, ◌↔◌, None, IfOk, IsTrue};
-ghost use Rattle.bl_cmd.specs.Outcomes.{IsStart};
 ghost use Rattle.bl_job.specs.Jobs.{AreRead};
 ghost use Rattle.bl_app.specs.ForwardJob.{ForwardPlans, IsSafe, is_verdict_safe, forward_job, safe_text};
-ghost use Rattle.bl_app.specs.TwinJob.{twinned_in};
-ghost use Rattle.bl_job.specs.WorkAnswers.{IsDoneBehind, IsWork, plan_in, contents_in};
-ghost use Rattle.bl_build.specs.TraceStages.{program_twinning};
-ghost use Rattle.bl_build.specs.StageAnswers.{speculated_in};
+ghost use Rattle.bl_job.specs.WorkAnswers.{IsWork, plan_in, contents_in};
+ghost use Rattle.bl_build.specs.StageAnswers.{HasOther, IsPrepared, twinned_in};
 ghost use Rattle.bl_words.specs.Words.{twin_in};
 
-use crate::twin::twin_status;
-use bl_base::{NoMemory, Start};
-use bl_build::{Speculation, prepare_speculation, read_entry_start, read_image};
+use crate::twin::{twin_status, twins_of};
+use bl_base::NoMemory;
+use bl_build::Twins;
 use bl_cmd::WellFormed;
 use bl_forward::{ForwardVerdict, compare_forwarding, forward_safe};
-use bl_job::{Content, Plan, WorkError, four_files};
+use bl_job::{Content, Plan, WorkError};
 use bl_words::TwinWords;
 use std::alloc::Global;
 
@@ -30,54 +27,27 @@ pub fn forward<'a>(
     requires { AreRead None (forward_job (twin_in words.now)).reads (contents_in contents.now) }
     ensures { IsWork (forward_job (twin_in words.now)) (contents_in contents.now) result }
 {
-    let (image, trace, start, other) = four_files(contents);
-    match read_image(alloc, image) {
-        Ok(program) => forward_program(alloc, words, &program, trace, start, other),
+    match twins_of(alloc, words, contents) {
+        Ok(twins) => Ok(tell(alloc, &twins)?),
         Err(error) => Err(error),
     }
 }
 
-/// The same, by the image's program.
-fn forward_program<'a>(
-    alloc: Global,
-    words: &TwinWords<'a>,
-    program: &WellFormed,
-    trace: &[u8],
-    start: &[u8],
-    other: &[u8],
-) -> Result<Plan<'a>, WorkError>
-    ensures { IsDoneBehind (program_twinning (twin_in words.now).export trace.now start.now other.now) ForwardPlans program.now result }
-{
-    let speculation = match prepare_speculation(alloc, program, words.export, trace, start) {
-        Ok(speculation) => speculation,
-        Err(error) => return Err(error),
-    };
-    let other = match read_entry_start(alloc, program, &speculation.entry, other) {
-        Ok(other) => other,
-        Err(error) => return Err(error),
-    };
-    Ok(tell(alloc, program, &speculation, &other)?)
-}
-
 /// Judges a program, and takes directives on a function from each of two starts: printing the verdict, and how the runs compare.
-fn tell<'a>(
-    alloc: Global,
-    program: &WellFormed,
-    speculation: &Speculation<'_>,
-    other: &Start,
-) -> Result<Plan<'a>, NoMemory>
-    requires start { IsStart program.now speculation.now.entry.function speculation.now.start }
-    requires other { IsStart program.now speculation.now.entry.function other.now }
-    ensures { IfOk result (λ plan. ForwardPlans (twinned_in (speculated_in program.now speculation.now) other.now) (plan_in plan)) }
+fn tell<'a>(alloc: Global, twins: &Twins) -> Result<Plan<'a>, NoMemory>
+    requires start { IsPrepared twins.now.speculation.prepared }
+    requires other { HasOther twins.now }
+    ensures { IfOk result (λ plan. ForwardPlans (twinned_in twins.now) (plan_in plan)) }
 {
-    let safe = is_safe(alloc, program)?;
+    let prepared = &twins.speculation.prepared;
+    let safe = is_safe(alloc, &prepared.program)?;
     let compared = compare_forwarding(
         alloc,
-        program,
-        speculation.entry.function,
-        &speculation.start,
-        other,
-        speculation.directives.as_slice(),
+        &prepared.program,
+        prepared.function,
+        &prepared.start,
+        &twins.other,
+        twins.speculation.directives.as_slice(),
     )?;
     let mut text = safe_line(alloc, safe)?;
     text.extend_from_slice(compared.text.as_slice())?;

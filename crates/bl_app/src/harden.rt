@@ -68,7 +68,7 @@ fn hardened_of<'a>(
 pub fn harden_reads<'a>(alloc: Global, words: &HardenWords<'a>) -> Result<Vec<Read<'a>>, NoMemory>
     ensures { IfOk result (λ reads. map read_in reads.items ≡ (harden_job (harden_in words.now)).reads) }
 {
-    let mut reads = module_reads(alloc, words.modules.as_slice())?;
+    let mut reads = module_reads(alloc, &[], words.modules.as_slice())?;
     if let Some(name) = words.counts {
         reads.push(Read {
             name,

@@ -1,5 +1,5 @@
 //! `interp`: from a start file's bytes and modules' to the text of the run's outcome.
-ghost use Rattle.std.specs.Prelude.{◌≡◌, ◌≤◌, None, IfOk, length, map};
+ghost use Rattle.std.specs.Prelude.{◌≤◌, None, IfOk, length};
 ghost use Rattle.bl_base.specs.Quantity.{limit_of};
 ghost use Rattle.bl_base.specs.declared.quantity.Quantity.TheVariants as quantity;
 ghost use Rattle.bl_reduce.specs.Outcomes.{IsStart};
@@ -7,33 +7,19 @@ ghost use Rattle.bl_app.specs.InterpJob.{InterpPlans, interp_job};
 ghost use Rattle.bl_job.specs.Jobs.{AreRead};
 ghost use Rattle.bl_text.specs.Names.{AreNamedApart};
 ghost use Rattle.bl_words.specs.Words.{interp_in};
-ghost use Rattle.bl_job.specs.WorkAnswers.{IsDoneBehind, IsWork, plan_in, read_in, contents_in};
+ghost use Rattle.bl_job.specs.WorkAnswers.{IsDoneBehind, IsWork, plan_in, contents_in};
 ghost use Rattle.bl_build.specs.InvocationStages.{invoking};
 ghost use Rattle.bl_build.specs.StageAnswers.{invoked_in};
 
-use crate::module::read_modules;
 use crate::outcome::outcome_status;
-use bl_base::{NoMemory, Quantity};
-use bl_build::{Invocation, load, prepare};
-use bl_job::{Content, Plan, Read, WorkError, first_file};
+use bl_base::NoMemory;
+use bl_build::{Invocation, load, prepare_invocation};
+use bl_job::{Content, Plan, WorkError, first_file};
 use bl_machine::{first_memories, interp};
 use bl_outcome::outcome_text;
 use bl_wasm::Linked;
 use bl_words::InterpWords;
 use std::alloc::Global;
-
-/// The files that `interp` reads: the start file, and then the modules.
-pub fn interp_reads<'a>(alloc: Global, words: &InterpWords<'a>) -> Result<Vec<Read<'a>>, NoMemory>
-    ensures { IfOk result (λ reads. map read_in reads.items ≡ (interp_job (interp_in words.now)).reads) }
-{
-    let mut reads = Vec::new(alloc);
-    reads.push(Read {
-        name: words.start,
-        quantity: Quantity::Start,
-    })?;
-    read_modules(&mut reads, words.modules.as_slice())?;
-    Ok(reads)
-}
 
 /// Printing the outcome of an exported function of modules' bytes from a start file's; Refused exactly where these are
 /// refused. Linear in the bytes, those of the memories and in the steps.
@@ -64,7 +50,7 @@ fn interpret_tree<'a>(
 ) -> Result<Plan<'a>, WorkError>
     ensures { IsDoneBehind (invoking (interp_in words.now).export start.now) (InterpPlans words.now.steps) linked.now result }
 {
-    let invocation = match prepare(alloc, linked.tree(), words.export, start) {
+    let invocation = match prepare_invocation(alloc, linked.tree(), words.export, start) {
         Ok(invocation) => invocation,
         Err(error) => return Err(error),
     };

@@ -1,33 +1,19 @@
 //! `join`: from the bytes of an interface file and of a client's and a library's image to the image of the program that they are joined to.
-ghost use Rattle.std.specs.Prelude.{◌≡◌, None, IfOk, map, string_bytes};
+ghost use Rattle.std.specs.Prelude.{◌≡◌, None, IfOk, string_bytes};
 ghost use Rattle.bl_app.specs.JoinJob.{fails_text, join_job, join_plan, joined_text, role_text};
 ghost use Rattle.bl_build.specs.JoinStages.{whole};
 ghost use Rattle.bl_build.specs.StageAnswers.{built_in, union_in};
 ghost use Rattle.bl_job.specs.Jobs.{AreRead, saying};
-ghost use Rattle.bl_job.specs.WorkAnswers.{IsWork, contents_in, plan_in, read_in};
+ghost use Rattle.bl_job.specs.WorkAnswers.{IsWork, contents_in, plan_in};
 ghost use Rattle.bl_job.specs.declared.status.Status.TheVariants.{No};
 ghost use Rattle.bl_words.specs.Words.{join_in};
 
-use bl_base::{NoMemory, Pos, Quantity, Role};
+use bl_base::{NoMemory, Pos, Role};
 use bl_build::{Built, Union, join_images};
 use bl_cmd::WellFormed;
-use bl_job::{Content, Plan, Read, Status, WorkError, list_reads, one_kept, three_files};
+use bl_job::{Content, Plan, Status, WorkError, one_kept, three_files};
 use bl_words::JoinWords;
 use std::alloc::Global;
-
-/// The files that `join` reads: the interface file, the client's image, and then the library's.
-pub fn join_reads<'a>(alloc: Global, words: &JoinWords<'a>) -> Result<Vec<Read<'a>>, NoMemory>
-    ensures { IfOk result (λ reads. map read_in reads.items ≡ (join_job (join_in words.now)).reads) }
-{
-    list_reads(
-        alloc,
-        &[
-            (words.iface, Quantity::Interface),
-            (words.client, Quantity::Image),
-            (words.library, Quantity::Image),
-        ],
-    )
-}
 
 /// Keeping the image of the program that a client and a library are joined to, by the bytes of an interface file and of their images, and printing
 /// its size; or printing which one doesn't pass on its side of the interface. Refused exactly where the bytes are refused. Linear in the

@@ -1,14 +1,12 @@
 //! The status and the text of a run's end.
 ghost use Rattle.std.specs.Prelude.{◌≡◌, IfOk};
 ghost use Rattle.bl_base.specs.Runs.{outcome_of};
-ghost use Rattle.bl_cmd.specs.Outcomes.{IsStart};
 ghost use Rattle.bl_app.specs.RunJob.{plain_text};
 ghost use Rattle.bl_app.specs.Outcomes.{outcome_status};
-ghost use Rattle.bl_build.specs.StageAnswers.{entered_in, entry_in};
+ghost use Rattle.bl_build.specs.StageAnswers.{IsPrepared, prepared_in};
 
-use bl_base::{NoMemory, Run, Start};
-use bl_build::Entry;
-use bl_cmd::WellFormed;
+use bl_base::{NoMemory, Run};
+use bl_build::Prepared;
 use bl_job::Status;
 use bl_outcome::outcome_text;
 use bl_seq::first_memories;
@@ -28,19 +26,17 @@ pub fn outcome_status(run: &Run) -> Status
 /// The text of the end of a function's run from a start, within so many steps. Linear in the bytes of the program's memories.
 pub fn plain_text(
     alloc: Global,
-    program: &WellFormed,
-    entry: &Entry<'_>,
-    start: &Start,
+    prepared: &Prepared,
     steps: u64,
     run: &Run,
 ) -> Result<Vec<u8>, NoMemory>
-    requires { IsStart program.now entry.now.function start.now }
-    ensures { IfOk result (λ text. text.items ≡ plain_text (entered_in (entry_in program.now entry.now) start.now) steps (outcome_of run.now)) }
+    requires { IsPrepared prepared.now }
+    ensures { IfOk result (λ text. text.items ≡ plain_text (prepared_in prepared.now) steps (outcome_of run.now)) }
 {
-    let memories = first_memories(alloc, program, start)?;
+    let memories = first_memories(alloc, &prepared.program, &prepared.start)?;
     outcome_text(
         alloc,
-        entry.defined.results.as_slice(),
+        prepared.defined().results.as_slice(),
         memories.as_slice(),
         steps,
         run,

@@ -1,5 +1,5 @@
 //! `part`: from an interface file's bytes and modules' to the image of their program with the least protects on one side of the interface.
-ghost use Rattle.std.specs.Prelude.{◌≡◌, ◌≤◌, None, IfOk, length, map};
+ghost use Rattle.std.specs.Prelude.{◌≡◌, ◌≤◌, None, IfOk, length};
 ghost use Rattle.bl_base.specs.Quantity.{limit_of};
 ghost use Rattle.bl_base.specs.declared.quantity.Quantity.TheVariants as quantity;
 ghost use Rattle.bl_app.specs.PartJob.{part_job, part_plan, part_staged};
@@ -7,30 +7,16 @@ ghost use Rattle.bl_build.specs.StageAnswers.{parted_in};
 ghost use Rattle.bl_cmd.specs.Sites.{is_protected, weight_of};
 ghost use Rattle.bl_job.specs.Jobs.{AreRead};
 ghost use Rattle.bl_job.specs.StagedJobs.{contents_stage};
-ghost use Rattle.bl_job.specs.WorkAnswers.{IsStaged, IsWork, contents_in, plan_in, read_in};
+ghost use Rattle.bl_job.specs.WorkAnswers.{IsStaged, IsWork, contents_in, plan_in};
 ghost use Rattle.bl_text.specs.Names.{AreNamedApart};
 ghost use Rattle.bl_words.specs.Words.{part_in};
 
-use crate::module::read_modules;
-use bl_base::{NoMemory, Quantity};
+use bl_base::NoMemory;
 use bl_build::{Parted, compile_part};
-use bl_job::{Content, Plan, Read, Status, WorkError, first_file, one_kept};
+use bl_job::{Content, Plan, Status, WorkError, first_file, one_kept};
 use bl_report::protects_report;
 use bl_words::PartWords;
 use std::alloc::Global;
-
-/// The files that `part` reads: the interface file, and then the modules.
-pub fn part_reads<'a>(alloc: Global, words: &PartWords<'a>) -> Result<Vec<Read<'a>>, NoMemory>
-    ensures { IfOk result (λ reads. map read_in reads.items ≡ (part_job (part_in words.now)).reads) }
-{
-    let mut reads = Vec::new(alloc);
-    reads.push(Read {
-        name: words.iface,
-        quantity: Quantity::Interface,
-    })?;
-    read_modules(&mut reads, words.modules.as_slice())?;
-    Ok(reads)
-}
 
 /// Keeping the image of the modules' program with the least protects on one side of an interface file's interface, and printing its counts and
 /// its protects; Refused exactly where the bytes are refused. Costs a maximum flow in a network that is linear in the program.

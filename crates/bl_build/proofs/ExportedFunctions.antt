@@ -1,12 +1,17 @@
 -- Exported functions of a program: they are found by their names, and exist.
-use Rattle.std.proofs.Common.{◌≡◌, ℕ, zero, suc, ◌<◌, Bool, true, false, List, [], ◌∷◌, Some, cond, length, drop, get_or, slice_get, sym, ap, ◌∙◌, subst, arith}
+use Rattle.std.proofs.Common.{◌≡◌, ℕ, suc, ◌<◌, Bool, true, false, List, [], ◌∷◌, Option, None, Some, cond, length, drop, get_or, refl, sym, ap, ◌∙◌, subst}
+use Rattle.std.specs.Prelude.{MatchOption}
 use Rattle.std.specs.Str.{bytes_eq}
 use Rattle.std.specs.List.{All}
 use Rattle.std.proofs.Math.Seq.{drop-cons}
 use Rattle.std.proofs.lemmas.Bool.{cond-true, cond-false}
 use Rattle.std.proofs.lemmas.List.Elements.{All-head, All-tail}
+use Rattle.std.proofs.lemmas.Option.{slice_get-get_or}
+use Rattle.bl_cmd.specs.Rules.{IsWellFormed}
 use Rattle.bl_cmd.specs.declared.definitions.ExportDef.{ExportDef}
-use Rattle.bl_build.specs.EntryStages.{function_named}
+use Rattle.bl_cmd.specs.declared.definitions.ProgramParts.{ProgramParts as Program}
+use Rattle.bl_build.specs.EntryStages.{Finds, function_named}
+use Rattle.bl_build.specs.StageAnswers.{entry_in}
 
 module _ (name : List ℕ) (exports : List ExportDef) where
   pub named_here : (i : ℕ) (export d : ExportDef) → i < length exports → export ≡ get_or exports i d → bytes_eq name export.name ≡ true → function_named name (drop i exports) ≡ Some export.function
@@ -33,8 +38,12 @@ named_exists count name (export ∷ exports) function all e =
         subst (λ n. n < count) same (All-head (λ (export : ExportDef). export.function < count) export exports all)
     of_test false behind e = behind e
 
--- the item at an index
-pub slice_get_is : {X : Type 0} (xs : List X) (i : ℕ) (x : X) → i < length xs → x ≡ get_or xs i x → slice_get xs i ≡ Some x
-slice_get_is [] i x lt is = absurd (omega arith)
-slice_get_is (y ∷ xs) zero x lt is = ap Some (sym is)
-slice_get_is (y ∷ xs) (suc i) x lt is = slice_get_is xs i x (omega arith) is
+-- where there is a function of a name, it is found
+pub found_so : (export : List ℕ) (program : Program) → IsWellFormed program → (found : Option ℕ) → found ≡ function_named export program.exports
+    → MatchOption found (function_named export program.exports ≡ None) (λ function. Finds export program (entry_in program function))
+found_so export program rules None e = sym e
+found_so export program rules (Some function) e = record {
+  same_program = refl;
+  exported = sym e;
+  defined = slice_get-get_or program.functions function _ (named_exists (length program.functions) export program.exports function rules.rule3.exist (sym e));
+}

@@ -11,7 +11,7 @@ use Rattle.bl_cut.specs.Marks.{protected}
 use Rattle.bl_cut.proofs.MarkedPrograms.{marks_are, weighs}
 use Rattle.bl_iface.specs.Answers.{JoinAnswers}
 use Rattle.bl_iface.specs.Files.{IsIface}
-use Rattle.bl_iface.specs.JoinedProgram.{HasSameTypes, joined}
+use Rattle.bl_iface.specs.JoinedProgram.{HasSameTypes}
 use Rattle.bl_iface.specs.InterfaceFunctions.{IsTargetsError, Matches}
 use Rattle.bl_iface.specs.RoleTests.{IsUnderError, asked}
 use Rattle.bl_iface.specs.declared.choice.UnderError.{UnderError}

@@ -26,7 +26,7 @@ pub mod ModulesTotal
 pub mod OneVerdict
 pub mod ModuleAnswers
 pub mod WorkedExamples
-pub mod SpeculationLemmas
+pub mod PreparedLemmas
 pub mod TraceLemmas
 pub mod VerdictsTotal
 pub mod WeightLemmas

@@ -1,9 +1,11 @@
 -- What the functions of the stages answer.
-use Rattle.std.specs.Prelude.{◌≡◌, ◌≤◌, ℕ, length, List, option_map, slice_get, Option, Some, None, Result, Ok, Err}
+use Rattle.std.specs.Prelude.{◌≡◌, ◌≤◌, ℕ, get_or, length, List, [], option_map, slice_get, Option, Some, None, Result, Ok, Err}
 use Rattle.std.proofs.Common.{Bor}
 use Rattle.bl_base.specs.Quantity.{limit_of}
 use Rattle.bl_base.specs.declared.quantity.Quantity.TheVariants as quantity
 use Rattle.bl_base.specs.declared.start.Start.{Start}
+use Rattle.bl_cmd.specs.Outcomes.{IsStart}
+use Rattle.bl_cmd.specs.declared.definitions.FunctionDef.{FunctionDef}
 use Rattle.bl_cmd.specs.declared.definitions.ProgramParts.{ProgramParts as Program}
 use Rattle.bl_base.specs.declared.number.Pos.{Pos}
 use Rattle.bl_base.specs.declared.names.Role.{Role}
@@ -41,15 +43,16 @@ use Rattle.bl_build.specs.JoinStages.{BothPass, Sides, Union, Unites, fails, oth
 use Rattle.bl_build.specs.LoadStages.{LabelledModule, Named, bad_labels, data_range, element_range, fault_of, invalid_function, invalid_module, malformed, mismatched_import, unknown_import, unsupported}
 use Rattle.bl_job.specs.Refusals.{Refusal, limit}
 use Rattle.bl_build.specs.InvocationStages.{Invoked}
-use Rattle.bl_build.specs.TraceStages.{Speculated, TracingRefuses, bad_directive}
-use Rattle.bl_build.specs.CertificateStages.{ReadingRefuses, not_json, other_shape}
+use Rattle.bl_build.specs.TraceStages.{Speculated, TracingRefuses, Twinned, bad_directive}
+use Rattle.bl_build.specs.CertificateStages.{Certified, ReadingRefuses, not_json, other_shape}
 use Rattle.bl_graph.specs.declared.certificate.Certificate.{Certificate}
 use Rattle.bl_witness.specs.Shapes.{ReadsCertificate}
 use Rattle.bl_witness.specs.declared.error.CertError.{CertError}
 use Rattle.bl_witness.specs.declared.error.CertError.TheVariants as cert
 use Rattle.bl_job.specs.WorkAnswers.{IsTold, Tells}
 use Rattle.bl_build.specs.declared.build.Built.{Built as BuiltMade}
-use Rattle.bl_build.specs.declared.entry.Entry.{Entry as EntryFound}
+use Rattle.bl_build.specs.declared.certificate.Certified.{Certified as CertifiedMade}
+use Rattle.bl_build.specs.declared.entry.Found.{Found}
 use Rattle.bl_build.specs.declared.harden.Hardened.{Hardened as HardenedMade}
 use Rattle.bl_build.specs.declared.invocation.Invocation.{Invocation}
 use Rattle.bl_build.specs.declared.join.Union.{Union as UnionMade}
@@ -58,8 +61,10 @@ use Rattle.bl_build.specs.declared.loading.Checked.{Checked}
 use Rattle.bl_build.specs.declared.loading.Ready.{Ready}
 use Rattle.bl_build.specs.declared.loading.Spelled.{Spelled}
 use Rattle.bl_build.specs.declared.part.Parted.{Parted as PartedMade}
+use Rattle.bl_build.specs.declared.prepared.Prepared.{Prepared}
 use Rattle.bl_job.specs.declared.refusal.WorkError.{WorkError}
 use Rattle.bl_build.specs.declared.speculation.Speculation.{Speculation}
+use Rattle.bl_build.specs.declared.twins.Twins.{Twins}
 
 -- modules under their names
 abbrev pub spelled_in : Spelled → Named
@@ -144,13 +149,27 @@ abbrev pub invoked_in : Tree → Invocation → Invoked
 invoked_in tree invocation =
     record { tree = tree; function = invocation.function; type = invocation.kind.now; start = invocation.start }
 
+-- what a program says of a function; nothing of one that it doesn't have
+abbrev pub defined_in : Program → ℕ → FunctionDef
+defined_in program function = get_or program.functions function (record { params = []; results = []; vars = 0; length = 0 })
+
 -- a function of a program
-abbrev pub entry_in : Program → EntryFound → Entry
-entry_in program entry = record { program = program; function = entry.function; defined = entry.defined.now }
+abbrev pub entry_in : Program → ℕ → Entry
+entry_in program function = record { program = program; function = function; defined = defined_in program function }
+
+abbrev pub found_in : Found → Entry
+found_in found = entry_in found.program found.function
 
 -- a function of a program and its start
 abbrev pub entered_in : Entry → Start → Entered
 entered_in entry start = record { entry = entry; start = start }
+
+abbrev pub prepared_in : Prepared → Entered
+prepared_in prepared = entered_in (entry_in prepared.program prepared.function) prepared.start
+
+-- the start fits the function
+abbrev pub IsPrepared : Prepared → Type 0
+IsPrepared prepared = IsStart prepared.program prepared.function prepared.start
 
 -- a program and its image
 abbrev pub built_in : BuiltMade → Built
@@ -166,11 +185,20 @@ hardened_in hardened = record {
 }
 
 -- a function of a program, a start of it, and directives
-abbrev pub speculated_in : Program → Speculation → Speculated
-speculated_in program speculation = record {
-  entered = entered_in (entry_in program speculation.entry) speculation.start;
-  directives = speculation.directives;
-}
+abbrev pub speculated_in : Speculation → Speculated
+speculated_in speculation = record { entered = prepared_in speculation.prepared; directives = speculation.directives }
+
+-- and another start
+abbrev pub twinned_in : Twins → Twinned
+twinned_in twins = record { speculated = speculated_in twins.speculation; other = twins.other }
+
+-- the other start fits the function too
+abbrev pub HasOther : Twins → Type 0
+HasOther twins = IsStart twins.speculation.prepared.program twins.speculation.prepared.function twins.other
+
+-- a program, and a certificate that is given for it
+abbrev pub certified_in : CertifiedMade → Certified
+certified_in certified = record { program = certified.program; certificate = certified.certificate }
 
 -- the directives of a trace file's bytes, or why they are refused
 abbrev pub IsTraced : List ℕ → Result (List Directive) WorkError → Type 0

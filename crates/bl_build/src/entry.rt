@@ -1,11 +1,12 @@
 //! From the bytes of an image to its program, to an exported function of it, and to a start of the function.
-ghost use Rattle.std.specs.Prelude.{◌≡◌, IfOk, MatchOption, None, Some, slice_get};
+ghost use Rattle.std.specs.Prelude.{◌≡◌, ◌<◌, IfOk, MatchOption, None, Some, length};
 ghost use Rattle.bl_cmd.specs.Outcomes.{IsStart};
-ghost use Rattle.bl_build.specs.EntryStages.{Finds, broken_rule, function_named, imaging, kinds_of, pages_of, starting};
+ghost use Rattle.bl_build.specs.EntryStages.{Finds, broken_rule, finding, function_named, imaging, kinds_of, pages_of, starting};
+ghost use Rattle.bl_job.specs.Stages.{chain};
 ghost use Rattle.bl_job.specs.WorkAnswers.{IsStaged, IsTold};
-ghost use Rattle.bl_build.specs.StageAnswers.{entered_in, entry_in, refusal_of_image};
+ghost use Rattle.bl_build.specs.StageAnswers.{defined_in, entered_in, entry_in, found_in, refusal_of_image};
 
-use crate::start::of_start;
+use crate::start::{no_export, of_start};
 use bl_base::{NoMemory, Start, ValueType};
 use bl_cmd::{ExportDef, FunctionDef, MemoryDef, ProgramParts, WellFormed};
 use bl_image::{ImageError, decode_image};
@@ -13,17 +14,32 @@ use bl_job::{Reason, WorkError, refused, refused_at};
 use bl_trace::read_start;
 use std::alloc::Global;
 
-/// A function of a program.
-#[derive(Clone, Copy)]
-pub struct Entry<'p> {
-    /// Its number.
+/// The program of an image, and a function of it.
+#[derive(Drop)]
+pub(crate) struct Found {
+    /// The program.
+    pub program: WellFormed,
+    /// The function's number.
     pub function: u32,
-    /// What the program says of it.
-    pub defined: &'p FunctionDef,
+}
+
+/// The program of an image, and its function that is exported under a name; Refused exactly where the bytes are no image, its program isn't
+/// well-formed, or no function is exported so.
+pub(crate) fn find_export(alloc: Global, image: &[u8], export: &str) -> Result<Found, WorkError>
+    ensures staged { IsStaged (chain imaging (finding export.now)) found_in image.now result }
+    ensures exists { IfOk result (λ found. found.function < length found.program.functions) }
+{
+    match read_image(alloc, image) {
+        Ok(program) => match find_function(&program, export) {
+            Some(function) => Ok(Found { program, function }),
+            None => Err(no_export(alloc)),
+        },
+        Err(error) => Err(error),
+    }
 }
 
 /// The program of an image; Refused exactly where the bytes are no image, or its program isn't well-formed.
-pub fn read_image(alloc: Global, bytes: &[u8]) -> Result<WellFormed, WorkError>
+pub(crate) fn read_image(alloc: Global, bytes: &[u8]) -> Result<WellFormed, WorkError>
     ensures { IsStaged imaging (λ program. program) bytes.now result }
 {
     match decode_image(alloc, bytes) {
@@ -66,14 +82,11 @@ fn broken_rule(alloc: Global, rule: u8, position: u32) -> WorkError
 }
 
 /// The function that is exported under a name; None where none is. Linear in the exports; takes no memory.
-pub fn find_entry<'p>(program: &'p WellFormed, export: &str) -> Option<Entry<'p>>
+fn find_function(program: &WellFormed, export: &str) -> Option<u32>
     ensures { MatchOption result (function_named export.now program.now.exports ≡ None)
-        (λ entry. Finds export.now program.now (entry_in program.now entry)) }
+        (λ function. Finds export.now program.now (entry_in program.now function)) }
 {
-    let parts = program.program().parts();
-    let function = number_named(export, parts.exports.as_slice())?;
-    let defined = &parts.functions.as_slice()[function as usize];
-    Some(Entry { function, defined })
+    number_named(export, program.program().parts().exports.as_slice())
 }
 
 /// The function of the first export of a name.
@@ -88,18 +101,26 @@ fn number_named(name: &str, exports: &[ExportDef]) -> Option<u32>
     None
 }
 
+/// What a program says of a function that it has.
+pub(crate) fn definition(program: &WellFormed, function: u32) -> &FunctionDef
+    requires { function < length program.now.functions }
+    ensures { result.now ≡ defined_in program.now function }
+{
+    &program.program().parts().functions.as_slice()[function as usize]
+}
+
 /// The start of a function that a start file asks for; Refused exactly where a line is bad or there are too few arguments.
-pub fn read_entry_start(
+pub(crate) fn read_entry_start(
     alloc: Global,
     program: &WellFormed,
-    entry: &Entry<'_>,
+    function: u32,
     bytes: &[u8],
 ) -> Result<Start, WorkError>
-    requires { slice_get program.now.functions entry.now.function ≡ Some entry.now.defined.now }
-    ensures staged { IsStaged (starting bytes.now) (entered_in (entry_in program.now entry.now)) (entry_in program.now entry.now) result }
-    ensures fits { IfOk result (λ start. IsStart program.now entry.now.function start) }
+    requires { function < length program.now.functions }
+    ensures staged { IsStaged (starting bytes.now) (entered_in (entry_in program.now function)) (entry_in program.now function) result }
+    ensures fits { IfOk result (λ start. IsStart program.now function start) }
 {
-    let kinds = kinds_of(alloc, entry.defined)?;
+    let kinds = kinds_of(alloc, definition(program, function))?;
     let pages = pages_of(alloc, program.program().parts())?;
     match read_start(alloc, bytes, kinds.as_slice(), pages.as_slice()) {
         Ok(start) => Ok(start),

@@ -25,7 +25,7 @@ pub struct Invocation<'a> {
 }
 
 /// The function exported under a name, and the start of it that a start file asks for.
-pub fn prepare<'a>(
+pub fn prepare_invocation<'a>(
     alloc: Global,
     tree: &'a Tree,
     export: &str,

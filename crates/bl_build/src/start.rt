@@ -9,7 +9,7 @@ use bl_trace::StartError;
 use std::alloc::Global;
 
 /// Why a function isn't run whose start file gives no start.
-pub fn of_start(alloc: Global, error: StartError) -> WorkError
+pub(crate) fn of_start(alloc: Global, error: StartError) -> WorkError
     ensures { IsTold (refusal_of_start error) result }
 {
     match error {
@@ -26,7 +26,7 @@ pub fn of_start(alloc: Global, error: StartError) -> WorkError
 }
 
 /// No function is exported under a name.
-pub fn no_export(alloc: Global) -> WorkError
+pub(crate) fn no_export(alloc: Global) -> WorkError
     ensures { IsTold (Some no_export) result }
 {
     refused(alloc, Reason::Start, "start: export", "", "")

@@ -12,7 +12,7 @@ use Rattle.bl_ops.specs.declared.op.Op.{Op}
 use Rattle.bl_ops.specs.declared.op.Op.TheVariants.{Move}
 use Rattle.bl_cmd.specs.Programs.{IsProgram, IsZero, arity}
 use Rattle.bl_cmd.specs.declared.command.Command.{Command}
-use Rattle.bl_cmd.specs.declared.command.Command.TheVariants.{Set, Load, Store, Test, Jump, Arg, Call, Out, Ret, Trap}
+use Rattle.bl_cmd.specs.declared.command.Command.TheVariants.{Set, Load, Store, Test, Arg, Out, Trap}
 use Rattle.bl_cmd.specs.declared.command.Operand.{Operand}
 use Rattle.bl_cmd.specs.declared.command.Operand.TheVariants as operands
 use Rattle.bl_cmd.specs.declared.definitions.Demand.{Demand}

@@ -7,8 +7,8 @@ use Rattle.bl_app.proofs.forward.tell.Goals as goal
 
 pub returns : goal.returns
 returns c =
-    let speculation = c.args.speculation.now in
-    let done = subst (λ (directives : List Directive). AreForwardedSideBySide c.args.program.now speculation.entry.function speculation.start c.args.other.now directives c.in_ok-compared.compared)
+    let prepared = c.args.twins.now.speculation.prepared in
+    let done = subst (λ (directives : List Directive). AreForwardedSideBySide prepared.program prepared.function prepared.start c.args.twins.now.other directives c.in_ok-compared.compared)
     c.as_slice.ensures c.in_ok-compared.ensures in
     let behind = c.as_slice-2.ensures ∙ done.tells in
     record {

@@ -1,11 +1,9 @@
-use Rattle.std.proofs.Common.{map}
-use Rattle.bl_base.specs.Runs.{outcome_of}
-use Rattle.bl_job.specs.WorkAnswers.{keep_in}
+use Rattle.std.proofs.Common.{ap}
+use Rattle.bl_words.specs.Words.{text_in}
 use Rattle.bl_app.proofs.run.tell.Goals as goal
 
-pub returns : goal.returns
-returns c = record {
-  outcome = outcome_of c.in_ok-run.run';
-  within = c.in_ok-run.ensures;
-  is_plan = λ i. record { status = c.outcome_status-status.ensures i; keeps = map keep_in (c.new.ensures.items i); text = c.in_ok-text.ensures i };
-}
+pub returns-in-None : goal.returns-in-None
+returns-in-None c = rw (ap text_in c.in-None.is) c.tell_outcome.ensures
+
+pub returns-in-Some : goal.returns-in-Some
+returns-in-Some c = rw (ap text_in c.in-Some.is) c.tell_counted.ensures

@@ -6,10 +6,11 @@ use Rattle.bl_app.proofs.run.tell_counted.Goals as goal
 
 pub returns : goal.returns
 returns c =
-    let program = c.args.program.now in
+    let prepared = c.args.prepared.now in
+    let program = prepared.program in
     let many : c.len-commands.result ≡ length program.commands = search rules in
-    let counts : c.as_slice.result.now ≡ counts_of program c.args.entry.now.function c.args.start.now c.args.steps = c.as_slice.ensures ∙ c.in_ok-counted.ensures.counts in
-    let told : c.in_ok-counts.counts.items ≡ counts_text (length program.commands) (counts_of program c.args.entry.now.function c.args.start.now c.args.steps) =
+    let counts : c.as_slice.result.now ≡ counts_of program prepared.function prepared.start c.args.steps = c.as_slice.ensures ∙ c.in_ok-counted.ensures.counts in
+    let told : c.in_ok-counts.counts.items ≡ counts_text (length program.commands) (counts_of program prepared.function prepared.start c.args.steps) =
     c.in_ok-counts.ensures ∙ (λ i. counts_text (many i) (counts i)) in
     let keeps = c.in_ok-keeps.ensures ∙ ap (λ bytes. (c.args.file.now, bytes) ∷ []) told in
     record {

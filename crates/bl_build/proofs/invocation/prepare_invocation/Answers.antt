@@ -7,7 +7,7 @@ use Rattle.bl_build.specs.EntryStages.{no_export}
 use Rattle.bl_job.proofs.StageLemmas.{told_as}
 use Rattle.bl_build.specs.StageAnswers.{invoked_in}
 use Rattle.bl_build.proofs.InvocationLemmas.{exported_exists, start_of_type, start_refused}
-use Rattle.bl_build.proofs.invocation.prepare.Goals as goal
+use Rattle.bl_build.proofs.invocation.prepare_invocation.Goals as goal
 
 pub signature-kind-requires-clause-exists : goal.signature-kind-requires-clause-exists
 signature-kind-requires-clause-exists c = exported_exists _ c.args.export.now _ c.in-Some.function c.requires.exports (sym c.in-Some.ensures)

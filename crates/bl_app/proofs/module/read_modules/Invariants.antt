@@ -1,9 +1,0 @@
-use Rattle.std.proofs.Common.{◌≡◌, ◌++◌, Bor, List, ℕ, map, drop}
-use Rattle.bl_app.specs.CompileJobs.{module_read}
-use Rattle.bl_job.specs.WorkAnswers.{read_in}
-use Rattle.bl_app.proofs.module.read_modules.Given as goal
-
-abbrev pub invariant-loop-word : goal.invariant-loop-word
-invariant-loop-word l =
-    map read_in l.reads.items ++ map module_read (map (λ (word : Bor (List ℕ)). word.now) (drop l.word-index l.words))
-    ≡ map read_in l.fn.reads.items ++ map module_read (map (λ (word : Bor (List ℕ)). word.now) l.words)
