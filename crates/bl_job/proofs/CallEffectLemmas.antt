@@ -1,5 +1,5 @@
 -- What stands after a call, by how it ends.
-use Rattle.std.proofs.Common.{◌≡◌, ℕ, List, length, Option, refl, ap, sym, ◌∙◌, arith}
+use Rattle.std.proofs.Common.{ℕ, List, length, Option, refl, ap, sym, ◌∙◌, arith}
 use Rattle.std.proofs.lemmas.List.{take_all}
 use Rattle.bl_job.specs.Ends.{Delivers, Ends, PlanFor, all_kept, as_planned, done, no_memory, no_memory_to_keep, not_kept, not_read, refused, usage}
 use Rattle.bl_job.specs.Jobs.{Job, Plan, saying}

@@ -11,7 +11,7 @@ use Rattle.bl_outside.specs.Shelf.{Files, KeepFaults, ReadFails, most_asked, wit
 use Rattle.bl_outside.specs.declared.shelf.ShelfError.{ShelfError}
 use Rattle.bl_outside.specs.declared.shelf.ShelfError.TheVariants as shelf
 use Rattle.bl_job.specs.Ends.{Delivers, all_kept, no_memory_to_keep, not_kept}
-use Rattle.bl_job.specs.Jobs.{AreRead, FileIs, IsSmall, IsTooLong, Plan, Read}
+use Rattle.bl_job.specs.Jobs.{AreRead, IsSmall, IsTooLong, Plan, Read}
 use Rattle.bl_job.specs.Refusals.{limit}
 use Rattle.bl_job.specs.Texts.{read_fault_text, write_fault_text, refusal_text}
 use Rattle.bl_job.specs.WorkAnswers.{NotFetched, NotKept, failed, keep_in, no_memory_to_fetch, read_in, refused, content_in, contents_in}

@@ -1,4 +1,4 @@
-use Rattle.std.proofs.Common.{Err, refl}
+use Rattle.std.proofs.Common.{Err}
 use Rattle.bl_build.specs.CertificateStages.{certifying}
 use Rattle.bl_build.specs.EntryStages.{imaging}
 use Rattle.bl_build.specs.StageAnswers.{certified_in}
@@ -12,6 +12,3 @@ returns-in-Err c = staged_first imaging (certifying c.args.certificate.now) cert
 pub returns-in-Err-read_certificate : goal.returns-in-Err-read_certificate
 returns-in-Err-read_certificate c =
     staged_behind imaging (certifying c.args.certificate.now) certified_in c.args.image.now c.in-Ok.program (Err c.in-Err-read_certificate.error) c.in-Ok.ensures c.in-Err-read_certificate.ensures
-
-pub returns-in-Ok-read_certificate : goal.returns-in-Ok-read_certificate
-returns-in-Ok-read_certificate c = (c.in-Ok.program, c.in-Ok.ensures, record { same_program = refl; read = c.in-Ok-read_certificate.ensures })

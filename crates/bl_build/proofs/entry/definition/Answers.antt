@@ -3,11 +3,6 @@ use Rattle.std.proofs.lemmas.Option.{get_or_from_slice_get}
 use Rattle.bl_base.proofs.Lists.{item_at}
 use Rattle.bl_build.proofs.entry.definition.Goals as goal
 
-pub bounds-as_slice-function : goal.bounds-as_slice-function
-bounds-as_slice-function c =
-    let functions = c.as_slice.ensures ∙ ap (λ p. p.functions) (c.parts.ensures.same ∙ c.program.ensures.same) in
-    subst (λ l. c.args.function < length l) (sym functions) c.requires
-
 pub returns : goal.returns
 returns c =
     let item = c.index-as_slice-function.result in

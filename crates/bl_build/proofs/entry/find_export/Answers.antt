@@ -1,5 +1,4 @@
 use Rattle.std.proofs.Common.{Err, refl}
-use Rattle.std.proofs.lemmas.Option.{slice_get_within}
 use Rattle.bl_job.proofs.StageLemmas.{told_as}
 use Rattle.bl_build.specs.EntryStages.{FindingRefuses, finding, imaging, no_export}
 use Rattle.bl_build.specs.StageAnswers.{found_in}
@@ -14,9 +13,3 @@ pub returns-in-None-clause-staged : goal.returns-in-None-clause-staged
 returns-in-None-clause-staged c =
     staged_behind imaging (finding c.args.export.now) found_in c.args.image.now c.in-Ok.program (Err c.no_export.result) c.in-Ok.ensures
     (told_as no_export (FindingRefuses c.args.export.now c.in-Ok.program) (record { not_exported = c.in-None.ensures; is_refusal = refl }) c.no_export.result c.no_export.ensures)
-
-pub returns-in-Some-clause-staged : goal.returns-in-Some-clause-staged
-returns-in-Some-clause-staged c = (c.in-Ok.program, c.in-Ok.ensures, c.in-Some.ensures)
-
-pub returns-in-Some-clause-exists : goal.returns-in-Some-clause-exists
-returns-in-Some-clause-exists c = slice_get_within c.in-Ok.program.functions c.in-Some.function _ c.in-Some.ensures.defined
