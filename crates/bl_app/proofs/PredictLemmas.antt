@@ -57,35 +57,35 @@ use Rattle.bl_app.proofs.TwinLemmas.{one_bool}
 
 -- ---- one plan
 
-pub one_predict_plan : (turns : ℕ) (word : List ℕ) (entered : Entered) (p q : Plan) → PredictPlans turns word entered p → PredictPlans turns word entered q → p ≡ q
-one_predict_plan turns word entered p q h k =
-    h.is_plan ∙ ap (predict_plan turns word entered) (one_bool (IsSafe entered.entry.program) h.safe k.safe h.is_safe k.is_safe) ∙ sym k.is_plan
+pub one_predict_plan : (steps : ℕ) (word : List ℕ) (entered : Entered) (p q : Plan) → PredictPlans steps word entered p → PredictPlans steps word entered q → p ≡ q
+one_predict_plan steps word entered p q h k =
+    h.is_plan ∙ ap (predict_plan steps word entered) (one_bool (IsSafe entered.entry.program) h.safe k.safe h.is_safe k.is_safe) ∙ sym k.is_plan
 
-some_predict_plan : (turns : ℕ) (word : List ℕ) (entered : Entered) → ((plan : Plan) → PredictPlans turns word entered plan → ⊥) → ⊥
-some_predict_plan turns word entered none =
+some_predict_plan : (steps : ℕ) (word : List ℕ) (entered : Entered) → ((plan : Plan) → PredictPlans steps word entered plan → ⊥) → ⊥
+some_predict_plan steps word entered none =
     either (IsSafe entered.entry.program) (λ cases. elim cases as (λ _. ⊥) [
       | inl safe ↦ none _ (record { safe = true; is_safe = (λ e. safe, λ _. refl); is_plan = refl })
       | inr unsafe ↦ none _ (record { safe = false; is_safe = (λ e. absurd (false≢true e), λ safe. absurd (unsafe safe)); is_plan = refl })
     ])
 
 -- what is planned by what a drive has come to
-pub planned_by : (turns : ℕ) (word : List ℕ) (entered : Entered) (driven : Driven) → IsDriven entered.entry.program (driven_of turns entered) driven → (safe : Bool)
+pub planned_by : (steps : ℕ) (word : List ℕ) (entered : Entered) (driven : Driven) → IsDriven entered.entry.program (driven_of steps entered) driven → (safe : Bool)
     → IsTrue safe ↔ IsSafe entered.entry.program → (plan : Plan)
     → plan
     ≡ (record {
       status = outcome_status (outcome_of driven.run);
       keeps = (word, trace_text driven.trace) ∷ [];
-      text = met_by driven ++ alike_text safe ++ plain_text entered turns (outcome_of driven.run);
+      text = met_by driven ++ alike_text safe ++ plain_text entered steps (outcome_of driven.run);
     })
-    → PredictPlans turns word entered plan
-planned_by turns word entered driven is safe is_safe plan e = record {
+    → PredictPlans steps word entered plan
+planned_by steps word entered driven is safe is_safe plan e = record {
   safe = safe;
   is_safe = is_safe;
   is_plan = e
       ∙ (λ i. record {
         status = outcome_status (is.run i);
         keeps = (word, trace_text (is.trace i)) ∷ [];
-        text = met_text (length (is.trace i)) (is.rollbacks i) (is.hits i) (is.misses i) ++ alike_text safe ++ plain_text entered turns (is.run i);
+        text = met_text (length (is.trace i)) (is.rollbacks i) (is.hits i) (is.misses i) ++ alike_text safe ++ plain_text entered steps (is.run i);
       });
 }
 
@@ -137,23 +137,23 @@ says_behind front safe behind rest e =
     ∙ ap (drop (length front)) (sym (append_assoc front (alike_text safe) behind) ∙ e ∙ append_assoc front (alike_text true) rest)
     ∙ drop-append_seam front (alike_text true ++ rest))
 
-module _ (turns : ℕ) (word : List ℕ) (entered : Entered) (plan : Plan) (h : PredictPlans turns word entered plan) where
+module _ (steps : ℕ) (word : List ℕ) (entered : Entered) (plan : Plan) (h : PredictPlans steps word entered plan) where
   abbrev drive : DriveState
-  drive = driven_of turns entered
+  drive = driven_of steps entered
 
   abbrev Alike : Type 0
-  Alike = BeginsWith (met (driven_of turns entered) ++ alike_text true) plan.text
+  Alike = BeginsWith (met (driven_of steps entered) ++ alike_text true) plan.text
 
-  text_is : plan.text ≡ met (driven_of turns entered) ++ alike_text h.safe ++ plain_text entered turns (drive_outcome turns entered)
+  text_is : plan.text ≡ met (driven_of steps entered) ++ alike_text h.safe ++ plain_text entered steps (drive_outcome steps entered)
   text_is = ap (λ p. p.text) h.is_plan
 
   safe_by : Alike → IsSafe entered.entry.program
   safe_by begins =
-      h.is_safe.0 (says_behind (met (driven_of turns entered)) h.safe (plain_text entered turns (drive_outcome turns entered)) begins.0 (sym text_is ∙ begins.1))
+      h.is_safe.0 (says_behind (met (driven_of steps entered)) h.safe (plain_text entered steps (drive_outcome steps entered)) begins.0 (sym text_is ∙ begins.1))
 
   alike_by : IsSafe entered.entry.program → Alike
   alike_by safe =
-      (_, text_is ∙ ap (λ a. met (driven_of turns entered) ++ alike_text a ++ plain_text entered turns (drive_outcome turns entered)) (h.is_safe.1 safe))
+      (_, text_is ∙ ap (λ a. met (driven_of steps entered) ++ alike_text a ++ plain_text entered steps (drive_outcome steps entered)) (h.is_safe.1 safe))
 
   assessed_so : (verdict : Verdict) → Assesses entered.entry.program verdict → verdict ≡ Safe ↔ Alike
   assessed_so Safe a = (λ e. alike_by (a.0, a.1), λ begins. refl)
@@ -161,8 +161,8 @@ module _ (turns : ℕ) (word : List ℕ) (entered : Entered) (plan : Plan) (h : 
   assessed_so (NotStable position) a = (λ e. absurd cc, λ begins. absurd (a.passes_not (safe_by begins).1))
 
 -- what was taken of a drive
-taken : (turns : ℕ) (entered : Entered) → IsTaken entered.entry.program entered.entry.function entered.start turns (driven_of turns entered)
-taken turns entered = each_taken entered.entry.program entered.entry.function entered.start turns
+taken : (steps : ℕ) (entered : Entered) → IsTaken entered.entry.program entered.entry.function entered.start steps (driven_of steps entered)
+taken steps entered = each_taken entered.entry.program entered.entry.function entered.start steps
 
 -- a drive of the same program with other first values of secret globals
 hidden_drive : (program : Program) → HidesGlobals program → (other : Program) → HasOtherSecrets program other → (function : ℕ) (a b : Start) → Agree program function a b → (most : ℕ)
@@ -179,20 +179,20 @@ hidden_drive program hidden other differs function a b agree most =
     (drives_from program (opening program function a) (opening beside function b) (record { entries = no_entries; front = refl })
     (λ directives. future directives ∙ observed_same (directive_step 64 beside) (directive_step 64 program) step 1 directives (opening beside function b)) most))
 
-predict_means : (export start image : List ℕ) (turns : ℕ) (word : List ℕ) (entered : Entered) → (entering export start).Passes image entered → (plan : Plan)
-    → PredictPlans turns word entered plan → PredictMeans turns entered plan
-predict_means export start image turns word entered prepared plan h =
+predict_means : (export start image : List ℕ) (steps : ℕ) (word : List ℕ) (entered : Entered) → (entering export start).Passes image entered → (plan : Plan)
+    → PredictPlans steps word entered plan → PredictMeans steps entered plan
+predict_means export start image steps word entered prepared plan h =
     let program = entered.entry.program in
     let function = entered.entry.function in record {
-      consistent = ended_so program function entered.start (fits export start image entered prepared) (driven_of turns entered).state
-          (subst (IsConsistent program (plain_opening program function entered.start)) (taken turns entered).leads (consistent 64 program function entered.start (driven_of turns entered).trace));
-      assessed = assessed_so turns word entered plan h;
+      consistent = ended_so program function entered.start (fits export start image entered prepared) (driven_of steps entered).state
+          (subst (IsConsistent program (plain_opening program function entered.start)) (taken steps entered).leads (consistent 64 program function entered.start (driven_of steps entered).trace));
+      assessed = assessed_so steps word entered plan h;
       alike = λ begins other agree.
-          let safe = safe_by turns word entered plan h begins in
-          two_drives program (equal program (facts export start image entered prepared) (rules export start image entered prepared) safe.0 safe.1) function entered.start other agree turns;
+          let safe = safe_by steps word entered plan h begins in
+          two_drives program (equal program (facts export start image entered prepared) (rules export start image entered prepared) safe.0 safe.1) function entered.start other agree steps;
       hides = λ begins beside differs other agree.
-          let safe = safe_by turns word entered plan h begins in
-          hidden_drive program (hides program (facts export start image entered prepared) (rules export start image entered prepared) safe.0 safe.1) beside differs function entered.start other agree turns;
+          let safe = safe_by steps word entered plan h begins in
+          hidden_drive program (hides program (facts export start image entered prepared) (rules export start image entered prepared) safe.0 safe.1) beside differs function entered.start other agree steps;
     }
 
 -- ---- the command
@@ -247,10 +247,10 @@ text_short (directive ∷ directives) near =
     omega (arith, first, rest, count)
 
 -- what is told of an outcome that there is doesn't depend on the steps
-same_end : (entered : Entered) (turns : ℕ) (outcome : Option Outcome) (end : Outcome) → outcome ≡ Some end → end_text entered outcome ≡ plain_text entered turns outcome
-same_end entered turns (Some (returned values memories)) end e = refl
-same_end entered turns (Some (trapped kind memories)) end e = refl
-same_end entered turns None end e = cc
+same_end : (entered : Entered) (steps : ℕ) (outcome : Option Outcome) (end : Outcome) → outcome ≡ Some end → end_text entered outcome ≡ plain_text entered steps outcome
+same_end entered steps (Some (returned values memories)) end e = refl
+same_end entered steps (Some (trapped kind memories)) end e = refl
+same_end entered steps None end e = cc
 
 pub followed : (request : PredictRequest) → AreTurnsInRange request.steps → (image start : List ℕ) (told : Plan) → (predict_job request).Does (image ∷ start ∷ []) told
     → IsFollowed request image start told

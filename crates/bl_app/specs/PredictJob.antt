@@ -29,13 +29,13 @@ use Rattle.bl_job.specs.declared.status.Status.TheVariants.{Done}
 
 -- ---- the drive
 
--- the function is driven from the start, for at most so many turns
+-- the function is driven from the start, for at most so many steps
 abbrev pub driven_of : ℕ → Entered → DriveState
-driven_of turns entered = driven entered.entry.program turns (begun entered.entry.program entered.entry.function entered.start)
+driven_of steps entered = driven entered.entry.program steps (begun entered.entry.program entered.entry.function entered.start)
 
 -- its outcome, if the machine has ended
 abbrev pub drive_outcome : ℕ → Entered → Option Outcome
-drive_outcome turns entered = outcome_in entered.entry.program (driven_of turns entered).state
+drive_outcome steps entered = outcome_in entered.entry.program (driven_of steps entered).state
 
 -- ---- the text
 
@@ -72,16 +72,16 @@ is_verdict_safe (NotStable position) = false
 -- keeping the trace file of what was chosen under its name, and printing what was met, whether the program is safe, so that other secrets give the same,
 -- and the outcome
 abbrev pub predict_plan : ℕ → List ℕ → Entered → Bool → Plan
-predict_plan turns word entered safe = record {
-  status = outcome_status (drive_outcome turns entered);
-  keeps = (word, trace_text (driven_of turns entered).trace) ∷ [];
-  text = met (driven_of turns entered) ++ alike_text safe ++ plain_text entered turns (drive_outcome turns entered);
+predict_plan steps word entered safe = record {
+  status = outcome_status (drive_outcome steps entered);
+  keeps = (word, trace_text (driven_of steps entered).trace) ∷ [];
+  text = met (driven_of steps entered) ++ alike_text safe ++ plain_text entered steps (drive_outcome steps entered);
 }
 
-pub record PredictPlans (turns : ℕ) (word : List ℕ) (entered : Entered) (plan : Plan) : Type 0 where
+pub record PredictPlans (steps : ℕ) (word : List ℕ) (entered : Entered) (plan : Plan) : Type 0 where
   pub safe : Bool
   pub is_safe : IsTrue safe ↔ IsSafe entered.entry.program
-  pub is_plan : plan ≡ predict_plan turns word entered safe
+  pub is_plan : plan ≡ predict_plan steps word entered safe
 
 -- the same function with another start
 abbrev pub with_start : Entered → Start → Entered
@@ -90,17 +90,17 @@ with_start entered other = record { entry = entered.entry; start = other }
 -- where the machine has ended, its outcome is that of the plain run after as many commands as entries were retired. The second line is `alike yes`
 -- exactly where any verdict on the program is that it is safe; and where it is, each start that agrees in public with this one gives the same trace
 -- and the same counts, also with the same program with other first values of its secret globals
-pub record PredictMeans (turns : ℕ) (entered : Entered) (plan : Plan) : Type 0 where
-  pub consistent : (outcome : Outcome) → drive_outcome turns entered ≡ Some outcome
-      → plain entered.entry.program entered.entry.function entered.start (driven_of turns entered).state.retired outcome
+pub record PredictMeans (steps : ℕ) (entered : Entered) (plan : Plan) : Type 0 where
+  pub consistent : (outcome : Outcome) → drive_outcome steps entered ≡ Some outcome
+      → plain entered.entry.program entered.entry.function entered.start (driven_of steps entered).state.retired outcome
   pub assessed : (verdict : Verdict) → Assesses entered.entry.program verdict
-      → verdict ≡ Safe ↔ BeginsWith (met (driven_of turns entered) ++ alike_text true) plan.text
-  pub alike : BeginsWith (met (driven_of turns entered) ++ alike_text true) plan.text → (other : Start)
+      → verdict ≡ Safe ↔ BeginsWith (met (driven_of steps entered) ++ alike_text true) plan.text
+  pub alike : BeginsWith (met (driven_of steps entered) ++ alike_text true) plan.text → (other : Start)
       → Agree entered.entry.program entered.entry.function entered.start other
-      → AreSame (driven_of turns entered) (driven_of turns (with_start entered other))
-  pub hides : BeginsWith (met (driven_of turns entered) ++ alike_text true) plan.text → (program : Program) → HasOtherSecrets entered.entry.program program
+      → AreSame (driven_of steps entered) (driven_of steps (with_start entered other))
+  pub hides : BeginsWith (met (driven_of steps entered) ++ alike_text true) plan.text → (program : Program) → HasOtherSecrets entered.entry.program program
       → (other : Start) → Agree entered.entry.program entered.entry.function entered.start other
-      → AreSame (driven_of turns entered) (driven program turns (begun program entered.entry.function other))
+      → AreSame (driven_of steps entered) (driven program steps (begun program entered.entry.function other))
 
 -- an image and a start file are read; the trace file of the drive is kept, and what was met and the outcome are printed
 abbrev pub predict_staged : PredictRequest → Staged Entered

@@ -166,7 +166,7 @@ pub fn no_status_answers_all()
 {}
 
 /// The trace file that `predict` keeps is no longer than is read, and `spec` of the same image, export and start file takes it to its end: each
-/// directive is enabled, and it tells the same outcome, or that the machine hasn't ended where `predict` told that its turns were spent.
+/// directive is enabled, and it tells the same outcome, or that the machine hasn't ended where `predict` told that its steps were spent.
 #[tactic(auto, using(crate::proofs::PredictLemmas::followed))]
 pub fn kept_traces_run()
     ensures { (request : PredictRequest) → AreTurnsInRange request.steps → (image start : Listed ℕ) (plan : Plan)

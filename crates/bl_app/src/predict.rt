@@ -23,7 +23,7 @@ use std::alloc::Global;
 
 /// Keeping the trace file of the directives that are chosen on an exported function of an image's program, from a start file's bytes, and
 /// printing what was met, whether the program is safe, so that other secrets give the same, and the outcome; Refused exactly where these are
-/// refused. Linear in the bytes, those of the memories and in the turns, but for what the check of a program takes.
+/// refused. Linear in the bytes, those of the memories and in the steps, but for what the check of a program takes.
 pub fn predict<'a>(
     alloc: Global,
     words: &PredictWords<'a>,
@@ -39,7 +39,7 @@ pub fn predict<'a>(
     }
 }
 
-/// Drives a function from its start. Linear in the program and in the turns.
+/// Drives a function from its start. Linear in the program and in the steps.
 fn tell<'a>(
     alloc: Global,
     words: &PredictWords<'a>,

@@ -14,7 +14,7 @@ use Rattle.bl_ct.specs.declared.verdict.CtVerdict.{CtVerdict}
 use Rattle.bl_sct.specs.Verdicts.{Assesses, IsStable}
 use Rattle.bl_sct.specs.declared.verdict.Verdict.{Verdict}
 use Rattle.bl_sct.specs.declared.verdict.Verdict.TheVariants as assess
-use Rattle.bl_sct.proofs.AssessLemmas.{hot}
+use Rattle.bl_sct.proofs.AssessLemmas.{transient}
 use Rattle.bl_transient.proofs.ChainsMet.{chain_met}
 use Rattle.bl_transient.specs.Verdicts.{Judges, typing_of}
 use Rattle.bl_transient.specs.declared.transient.FlowVerdict.{FlowVerdict}
@@ -36,7 +36,7 @@ module _ (program : Program) where
   pub stable_back : (verdict : FlowVerdict) → Judges program (is_protected program) verdict → IsStable program → Stable verdict
   stable_back (flow.Yes typing) h p = tt
   stable_back (flow.No position) h p =
-      absurd (never_both (p.0 h.var) (hot program (is_protected program) p.0 p.1.assigns h.var h.hot) (p.1.sinks position.0 h.var h.sink))
+      absurd (never_both (p.0 h.var) (transient program (is_protected program) p.0 p.1.assigns h.var h.transient) (p.1.sinks position.0 h.var h.sink))
 
   -- a certificate keeps its rules exactly where the verdict says so
   module _ (certificate : Certificate) where

@@ -162,7 +162,7 @@ module _ (program : Program) (facts : IsProgram program) (rules : IsWellFormed p
   barred_in : (x : ℕ) → IsBarred nothing program x → Contains ends (node_of program names x)
   unfolding ends
   barred_in x (inl sink) = in_map (sink_node names (commands program)) lists.sinks (use_of sink.0 x) ((lists.sinks_are sink.0 x).1 sink.1)
-  barred_in x (inr firm) = absurd (false≢true firm)
+  barred_in x (inr stable) = absurd (false≢true stable)
 
   end_of : (v : ℕ) → IsEndUnder nothing program names v → Contains ends v
   end_of v end = subst (Contains ends) (sym end.1) (barred_in end.0 end.3)
@@ -204,7 +204,7 @@ module _ (program : Program) (facts : IsProgram program) (rules : IsWellFormed p
     start_in : (s : ℕ) → IsFirstSite nothing program s ⊎ IsAskedNode nothing program names s → Contains starts s
     start_in s (inl (inl load)) = (begin s).1 (is.sites s (is.loads s load), load)
     start_in s (inl (inr one)) = absurd (false≢true one.2)
-    start_in s (inr hot) = absurd (false≢true hot.3)
+    start_in s (inr transient) = absurd (false≢true transient.3)
 
     network : Network
     network = record { weights = weights; arcs = arcs; starts = starts; ends = ends }
@@ -213,8 +213,8 @@ module _ (program : Program) (facts : IsProgram program) (rules : IsWellFormed p
     unfolding network
     is_network = record {
       named = named;
-      hot_named = λ x hot. absurd (false≢true hot);
-      firm_named = λ x firm. absurd (false≢true firm);
+      transient_named = λ x transient. absurd (false≢true transient);
+      stable_named = λ x stable. absurd (false≢true stable);
       size_is = many;
       weights = weighed;
       arcs = λ u v. (arc_kind u v, arc_of u v);
@@ -223,7 +223,7 @@ module _ (program : Program) (facts : IsProgram program) (rules : IsWellFormed p
     }
 
     found : (r : FlowResult) × IsMaxFlow network r
-    found = some_flow network (network_in_range nothing program names is network is_network) (bounded nothing program names is network is_network (λ x hot. absurd (false≢true hot))) (total nothing program names is network is_network)
+    found = some_flow network (network_in_range nothing program names is network is_network) (bounded nothing program names is network is_network (λ x transient. absurd (false≢true transient))) (total nothing program names is network is_network)
 
     abbrev set : ℕ → Bool
     set = cut_of found.0.cut

@@ -56,12 +56,12 @@ module _ (program : Program) (set : ℕ → Bool) where
 
   -- where a sink reads a transient variable no typing keeps all rules
   no_typing : (a : List Flow) (position : ℕ) → IsLeastTyping program set a → IsFirstSink program set position → ⊥
-  no_typing a position h k = never_both (typing_of a k.var) ((h.trans k.var).1 k.hot) (h.flows_hold.sinks position k.var k.sink)
+  no_typing a position h k = never_both (typing_of a k.var) ((h.trans k.var).1 k.transient) (h.flows_hold.sinks position k.var k.sink)
 
   first_once : (one other : ℕ) → IsFirstSink program set one → IsFirstSink program set other → one ≡ other
   first_once one other h k =
-      let below = h.least other k.var k.sink k.hot in
-      let above = k.least one h.var h.sink h.hot in
+      let below = h.least other k.var k.sink k.transient in
+      let above = k.least one h.var h.sink h.transient in
       omega (arith, below, above)
 
   -- a set has one verdict

@@ -33,7 +33,7 @@ use Rattle.bl_graph.proofs.ChainExclusion.{chain_not, least}
 use Rattle.bl_transient.specs.Transient.{Assigns, Passes, Trans, nothing}
 use Rattle.bl_transient.specs.Verdicts.{IsFirstLeak, IsLeastTyping, Judges as JudgesFlow, typing_of}
 use Rattle.bl_report.specs.Verdicts.{leak_in}
-use Rattle.bl_sct.proofs.AssessLemmas.{hot}
+use Rattle.bl_sct.proofs.AssessLemmas.{transient}
 use Rattle.bl_transient.specs.declared.transient.FlowVerdict.{FlowVerdict}
 use Rattle.bl_transient.specs.declared.transient.FlowVerdict.TheVariants as flow
 use Rattle.bl_transient.proofs.LeastTypings.{is_trans, least_assigns, least_typing, typing_trans}
@@ -126,7 +126,7 @@ module _ (program : Program) (set : ℕ → Bool) (is : AreInRange program) wher
   trans_within : (x : ℕ) → Trans program set x → x < variables program
   trans_within x (Rattle.bl_transient.specs.Transient.loaded s _ load writes may) = (is.writes s x writes).1
   trans_within x (Rattle.bl_transient.specs.Transient.moved s y _ reads writes may t) = (is.writes s x writes).1
-  trans_within x (Rattle.bl_transient.specs.Transient.given _ hot) = absurd (false≢true hot)
+  trans_within x (Rattle.bl_transient.specs.Transient.given _ transient) = absurd (false≢true transient)
 
   flows : List Flow
   flows = table (variables program) (λ x. flow_of_mark (least_typing nothing program set x))
@@ -162,7 +162,7 @@ module _ (program : Program) (set : ℕ → Bool) (is : AreInRange program) wher
     flows_hold = record {
       assigns = subst (λ typing. Assigns program typing set) (sym same_typings) (least_assigns nothing program set);
       sinks = λ position x reads. subst (λ b. not b ≡ true) (sym (same_typing x)) (stable position x reads);
-      firm = λ x is. absurd (false≢true is);
+      stable = λ x is. absurd (false≢true is);
     };
     trans = λ x. ((λ h. typing_trans nothing program set x (sym (same_typing x) ∙ h)), (λ t. same_typing x ∙ is_trans nothing program set x t));
   }
@@ -171,7 +171,7 @@ module _ (program : Program) (set : ℕ → Bool) (is : AreInRange program) wher
   stays_stable : Passes program set → (position x : ℕ) → SinkReads program position x → not (least_typing nothing program set x) ≡ true
   stays_stable p position x reads =
       elim (cases_Bool (least_typing nothing program set x)) as (λ _. not (least_typing nothing program set x) ≡ true) [
-        | inl e ↦ absurd (never_both (p.0 x) (hot program set p.0 p.1.assigns x (typing_trans nothing program set x e)) (p.1.sinks position x reads))
+        | inl e ↦ absurd (never_both (p.0 x) (transient program set p.0 p.1.assigns x (typing_trans nothing program set x e)) (p.1.sinks position x reads))
         | inr e ↦ not_from_false (least_typing nothing program set x) e
       ]
 
@@ -189,7 +189,7 @@ module _ (program : Program) (set : ℕ → Bool) (is : AreInRange program) wher
             | inl e ↦
                 absurd (some_first (λ place. (y : ℕ) × SinkReads program place y × Trans program set y) position (x, reads, typing_trans nothing program set x e) (λ first.
                 none (flow.No (record { 0 = first.0 }))
-                (record { var = first.1.is.0; sink = first.1.is.1; hot = first.1.is.2; least = λ other y sink t. first.1.least other (y, sink, t) })))
+                (record { var = first.1.is.0; sink = first.1.is.1; transient = first.1.is.2; least = λ other y sink t. first.1.least other (y, sink, t) })))
             | inr e ↦ not_from_false (least_typing nothing program set x) e
           ]
 

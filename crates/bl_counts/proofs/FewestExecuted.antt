@@ -134,10 +134,10 @@ both_added program runs others one two sums first second are s site =
 
 module _ (program : Program) (counts : List SiteCount) where
   passes_back : (set : ℕ → Bool) → Passes (weighed counts program) set → Passes program set
-  passes_back set h = (h.0, record { assigns = record { loads = h.1.assigns.loads; moves = h.1.assigns.moves; given = h.1.assigns.given }; sinks = h.1.sinks; firm = h.1.firm })
+  passes_back set h = (h.0, record { assigns = record { loads = h.1.assigns.loads; moves = h.1.assigns.moves; given = h.1.assigns.given }; sinks = h.1.sinks; stable = h.1.stable })
 
   passes_on : (set : ℕ → Bool) → Passes program set → Passes (weighed counts program) set
-  passes_on set h = (h.0, record { assigns = record { loads = h.1.assigns.loads; moves = h.1.assigns.moves; given = h.1.assigns.given }; sinks = h.1.sinks; firm = h.1.firm })
+  passes_on set h = (h.0, record { assigns = record { loads = h.1.assigns.loads; moves = h.1.assigns.moves; given = h.1.assigns.given }; sinks = h.1.sinks; stable = h.1.stable })
 
   sites_on : (set : ℕ → Bool) → AreSites program set → AreSites (weighed counts program) set
   sites_on set h s chosen = subst IsSome (sym (weight_is (count_in counts) program s)) (by (mark_at program s) (h s chosen))

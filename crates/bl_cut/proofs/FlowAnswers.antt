@@ -98,13 +98,13 @@ module _ (program : Program) (names : List ℕ) (is : AreInRange program) (r : F
 -- ---- what lists ask
 
 -- no variable is in both lists, nor one of the first read by a sink
-pub lists_apart : (program : Program) (lists : AskedOf) → ((x : ℕ) → Contains lists.hot x → Contains lists.firm x → ⊥) → ((position x : ℕ) → SinkReads program position x → Contains lists.hot x → ⊥)
-    → (x : ℕ) → IsTrue ((asked_of lists).hot x) → IsBarred (asked_of lists) program x → ⊥
-lists_apart program lists apart sinks x hot (inl sink) = sinks sink.0 x sink.1 (asked_in lists.hot x hot)
-lists_apart program lists apart sinks x hot (inr firm) = apart x (asked_in lists.hot x hot) (asked_in lists.firm x firm)
+pub lists_apart : (program : Program) (lists : AskedOf) → ((x : ℕ) → Contains lists.transient x → Contains lists.stable x → ⊥) → ((position x : ℕ) → SinkReads program position x → Contains lists.transient x → ⊥)
+    → (x : ℕ) → IsTrue ((asked_of lists).transient x) → IsBarred (asked_of lists) program x → ⊥
+lists_apart program lists apart sinks x transient (inl sink) = sinks sink.0 x sink.1 (asked_in lists.transient x transient)
+lists_apart program lists apart sinks x transient (inr stable) = apart x (asked_in lists.transient x transient) (asked_in lists.stable x stable)
 
-pub network_of : (program : Program) (names hot firm : List ℕ) (lists : AskedOf) (n : Network) → hot ≡ lists.hot → firm ≡ lists.firm
-    → IsNetworkUnder (asked_of (record { hot = hot; firm = firm })) program names n → IsNetworkUnder (asked_of lists) program names n
-network_of program names hot firm lists n e f is =
-    subst (λ l. IsNetworkUnder (asked_of (record { hot = lists.hot; firm = l })) program names n) f
-    (subst (λ l. IsNetworkUnder (asked_of (record { hot = l; firm = firm })) program names n) e is)
+pub network_of : (program : Program) (names transient stable : List ℕ) (lists : AskedOf) (n : Network) → transient ≡ lists.transient → stable ≡ lists.stable
+    → IsNetworkUnder (asked_of (record { transient = transient; stable = stable })) program names n → IsNetworkUnder (asked_of lists) program names n
+network_of program names transient stable lists n e f is =
+    subst (λ l. IsNetworkUnder (asked_of (record { transient = lists.transient; stable = l })) program names n) f
+    (subst (λ l. IsNetworkUnder (asked_of (record { transient = l; stable = stable })) program names n) e is)

@@ -17,7 +17,7 @@ use Rattle.bl_graph.proofs.PathCounts.{amount_if, once}
 use Rattle.bl_transient.specs.Transient.{Asked, AssignsUnder, PassesUnder, TransUnder, loaded, moved, given}
 use Rattle.bl_graph.proofs.CommandLists.{decided_sink, stands_below}
 use Rattle.bl_graph.proofs.FedSites.{feeds, writes_stable, crossed_by, fed_load, fed_read, fed_how, stable_write, stable_how}
-use Rattle.bl_transient.proofs.LeastTypings.{is_trans, trans_least, passing_firm, passing_sinks, least_typing, least_assigns, typing_trans}
+use Rattle.bl_transient.proofs.LeastTypings.{is_trans, trans_least, passing_stable, passing_sinks, least_typing, least_assigns, typing_trans}
 use Rattle.bl_cut.specs.Least.{LeastUnder}
 use Rattle.bl_cut.specs.Network.{IsBarred}
 
@@ -131,12 +131,12 @@ crossing a b p q c d true true w f g h i =
     omega arith
 
 -- what is asked to be transient is a variable, and may be transient
-module _ (asked : Asked) (program : Program) (is : AreInRange program) (hots : (x : ℕ) → IsTrue (asked.hot x) → x < variables program) (apart : (x : ℕ) → IsTrue (asked.hot x) → IsBarred asked program x → ⊥) where
+module _ (asked : Asked) (program : Program) (is : AreInRange program) (transients : (x : ℕ) → IsTrue (asked.transient x) → x < variables program) (apart : (x : ℕ) → IsTrue (asked.transient x) → IsBarred asked program x → ⊥) where
   -- a typing has what is asked, and nothing that a sink reads
   record Valid (t : ℕ → Bool) : Type 0 where
     sinks : (position x : ℕ) → SinkReads program position x → t x ≡ false
-    hot : (x : ℕ) → IsTrue (asked.hot x) → t x ≡ true
-    firm : (x : ℕ) → IsTrue (asked.firm x) → t x ≡ false
+    transient : (x : ℕ) → IsTrue (asked.transient x) → t x ≡ true
+    stable : (x : ℕ) → IsTrue (asked.stable x) → t x ≡ false
 
   fed_site : (t : ℕ → Bool) (s : ℕ) → feeds program t s ≡ true → IsSite program s
   fed_site t s h = elim (fed_how program t s h) as (λ _. IsSite program s) [ inl load ↦ is.loads s load | inr r ↦ (is.reads s r.0 r.1).0 ]
@@ -149,7 +149,7 @@ module _ (asked : Asked) (program : Program) (is : AreInRange program) (hots : (
   crossed_assigns t valid = record {
     loads = λ s x load writes may. written s x writes may (fed_load program t s load);
     moves = λ s x y reads writes may e. written s y writes may (fed_read program t s x reads e);
-    given = valid.hot;
+    given = valid.transient;
   }
     where
       written : (s x : ℕ) → Writes program s x → IsTrue (not (crossed_by program t s)) → feeds program t s ≡ true → IsTrue (t x)
@@ -165,7 +165,7 @@ module _ (asked : Asked) (program : Program) (is : AreInRange program) (hots : (
     record {
       assigns = crossed_assigns t valid;
       sinks = λ position x sink. not_from_false (t x) (valid.sinks position x sink);
-      firm = λ x firm. not_from_false (t x) (valid.firm x firm);
+      stable = λ x stable. not_from_false (t x) (valid.stable x stable);
     },
   )
 
@@ -237,15 +237,15 @@ module _ (asked : Asked) (program : Program) (is : AreInRange program) (hots : (
   -- what a list of answers breaks
   abbrev Breaks : List Bool → Type 0
   Breaks l = ((position : ℕ) × (position < commands program) × ((x : ℕ) × SinkReads program position x × (is_in l x ≡ true)))
-      ⊎ (((x : ℕ) × (x < variables program) × ((asked.hot x ≡ true) × (is_in l x ≡ false))) ⊎ ((x : ℕ) × (x < length l) × ((asked.firm x ≡ true) × (is_in l x ≡ true))))
+      ⊎ (((x : ℕ) × (x < variables program) × ((asked.transient x ≡ true) × (is_in l x ≡ false))) ⊎ ((x : ℕ) × (x < length l) × ((asked.stable x ≡ true) × (is_in l x ≡ true))))
 
   breaks : (l : List Bool) → Decided (Breaks l)
   breaks l =
       decided_either (decided_below (commands program) (λ position. (x : ℕ) × SinkReads program position x × (is_in l x ≡ true))
       (λ position. decided_sink program position (λ x. is_in l x ≡ true) (λ x. decided_true (is_in l x))))
       (decided_either
-      (decided_below (variables program) (λ x. (asked.hot x ≡ true) × (is_in l x ≡ false)) (λ x. decided_both (decided_true (asked.hot x)) (decided_false (is_in l x))))
-      (decided_below (length l) (λ x. (asked.firm x ≡ true) × (is_in l x ≡ true)) (λ x. decided_both (decided_true (asked.firm x)) (decided_true (is_in l x)))))
+      (decided_below (variables program) (λ x. (asked.transient x ≡ true) × (is_in l x ≡ false)) (λ x. decided_both (decided_true (asked.transient x)) (decided_false (is_in l x))))
+      (decided_below (length l) (λ x. (asked.stable x ≡ true) × (is_in l x ≡ true)) (λ x. decided_both (decided_true (asked.stable x)) (decided_true (is_in l x)))))
 
   is_valid : List Bool → Bool
   is_valid l = not (holds (breaks l))
@@ -263,14 +263,14 @@ module _ (asked : Asked) (program : Program) (is : AreInRange program) (hots : (
       let none : Breaks l → ⊥ = λ b. never_both (holds (breaks l)) (holds_if (breaks l) b) h in
       record {
         sinks = λ position x sink. false_from_ne_true (is_in l x) (λ e. none (inl (position, stands_below program position (λ command. Among (sunk_by command) x) sink, (x, sink, e))));
-        hot = λ x hot. elim (cases_Bool (is_in l x)) as (λ _. is_in l x ≡ true) [ inl e ↦ e | inr e ↦ absurd (none (inr (inl (x, hots x hot, (hot, e))))) ];
-        firm = λ x firm. false_from_ne_true (is_in l x) (λ e. none (inr (inr (x, listed_within l x e, (firm, e)))));
+        transient = λ x transient. elim (cases_Bool (is_in l x)) as (λ _. is_in l x ≡ true) [ inl e ↦ e | inr e ↦ absurd (none (inr (inl (x, transients x transient, (transient, e))))) ];
+        stable = λ x stable. false_from_ne_true (is_in l x) (λ e. none (inr (inr (x, listed_within l x e, (stable, e)))));
       }
 
   unbroken : (l : List Bool) → Valid (is_in l) → Breaks l → ⊥
   unbroken l valid (inl s) = false≢true (sym (valid.sinks s.0 s.2.0 s.2.1) ∙ s.2.2)
-  unbroken l valid (inr (inl h)) = false≢true (sym h.2.1 ∙ valid.hot h.0 h.2.0)
-  unbroken l valid (inr (inr f)) = false≢true (sym (valid.firm f.0 f.2.0) ∙ f.2.1)
+  unbroken l valid (inr (inl h)) = false≢true (sym h.2.1 ∙ valid.transient h.0 h.2.0)
+  unbroken l valid (inr (inr f)) = false≢true (sym (valid.stable f.0 f.2.0) ∙ f.2.1)
 
   valid_then : (l : List Bool) → Valid (is_in l) → is_valid l ≡ true
   unfolding is_valid
@@ -300,18 +300,18 @@ module _ (asked : Asked) (program : Program) (is : AreInRange program) (hots : (
           },
         )
         | inr none ↦
-            let table : List Bool = tabulate (variables program) asked.hot in
-            absurd (none table (listed_table (variables program) asked.hot) (valid_then table (subst Valid (sym (same_table asked.hot asked_small)) asked_valid)))
+            let table : List Bool = tabulate (variables program) asked.transient in
+            absurd (none table (listed_table (variables program) asked.transient) (valid_then table (subst Valid (sym (same_table asked.transient asked_small)) asked_valid)))
       ]
     where
-      asked_small : Small asked.hot
-      asked_small x past = false_from_ne_true (asked.hot x) (λ hot. let lt = hots x hot in omega arith)
+      asked_small : Small asked.transient
+      asked_small x past = false_from_ne_true (asked.transient x) (λ transient. let lt = transients x transient in omega arith)
 
-      asked_valid : Valid asked.hot
+      asked_valid : Valid asked.transient
       asked_valid = record {
-        sinks = λ position x sink. false_from_ne_true (asked.hot x) (λ hot. apart x hot (inl (position, sink)));
-        hot = λ x hot. hot;
-        firm = λ x firm. false_from_ne_true (asked.hot x) (λ hot. apart x hot (inr firm));
+        sinks = λ position x sink. false_from_ne_true (asked.transient x) (λ transient. apart x transient (inl (position, sink)));
+        transient = λ x transient. transient;
+        stable = λ x stable. false_from_ne_true (asked.transient x) (λ transient. apart x transient (inr stable));
       }
 
   module _ (t : ℕ → Bool) (is_best : IsBest t) (other : ℕ → Bool) (sites : AreSites program other) (passes : PassesUnder asked program other) where
@@ -321,7 +321,7 @@ module _ (asked : Asked) (program : Program) (is : AreInRange program) (hots : (
     trans_small : (x : ℕ) → TransUnder asked program other x → x < (variables program)
     trans_small x (loaded s _ load writes may) = (is.writes s x writes).1
     trans_small x (moved s y _ reads writes may before) = (is.writes s x writes).1
-    trans_small x (given _ hot) = hots x hot
+    trans_small x (given _ transient) = transients x transient
 
     small : Small theirs
     small x past = false_from_ne_true (theirs x) (λ h. let lt = trans_small x (typing_trans asked program other x h) in omega arith)
@@ -329,8 +329,8 @@ module _ (asked : Asked) (program : Program) (is : AreInRange program) (hots : (
     valid : Valid theirs
     valid = record {
       sinks = λ position x sink. false_from_ne_true (theirs x) (λ h. passing_sinks asked program other passes position x sink (typing_trans asked program other x h));
-      hot = λ x hot. is_trans asked program other x (given x hot);
-      firm = λ x firm. false_from_ne_true (theirs x) (λ h. passing_firm asked program other passes x firm (typing_trans asked program other x h));
+      transient = λ x transient. is_trans asked program other x (given x transient);
+      stable = λ x stable. false_from_ne_true (theirs x) (λ h. passing_stable asked program other passes x stable (typing_trans asked program other x h));
     }
 
     crossed_in : (s : ℕ) → crossed_by program theirs s ≡ true → other s ≡ true
@@ -342,11 +342,11 @@ module _ (asked : Asked) (program : Program) (is : AreInRange program) (hots : (
           | inl e ↦ e
           | inr e ↦
               let may = not_from_false (other s) e in
-              let hot : theirs how.0 ≡ true = elim (fed_how program theirs s parts.0) as (λ _. theirs how.0 ≡ true) [
+              let transient : theirs how.0 ≡ true = elim (fed_how program theirs s parts.0) as (λ _. theirs how.0 ≡ true) [
                 | inl load ↦ keeps.loads s how.0 load how.1 may
                 | inr r ↦ keeps.moves s r.0 how.0 r.1 how.1 may r.2
               ] in
-              absurd (false≢true (sym how.2 ∙ hot))
+              absurd (false≢true (sym how.2 ∙ transient))
         ]
 
     no_heavier : weight_of program (crossed_by program theirs) ≤ weight_of program other
@@ -365,8 +365,8 @@ module _ (asked : Asked) (program : Program) (is : AreInRange program) (hots : (
       both_valid : Valid (both t theirs)
       both_valid = record {
         sinks = λ position x sink. and_left (t x) (theirs x) (is_best.valid.sinks position x sink);
-        hot = λ x hot. and_from (t x) (theirs x) (is_best.valid.hot x hot) (valid.hot x hot);
-        firm = λ x firm. and_left (t x) (theirs x) (is_best.valid.firm x firm);
+        transient = λ x transient. and_from (t x) (theirs x) (is_best.valid.transient x transient) (valid.transient x transient);
+        stable = λ x stable. and_left (t x) (theirs x) (is_best.valid.stable x stable);
       }
 
       either_small : Small (either t theirs)
@@ -375,8 +375,8 @@ module _ (asked : Asked) (program : Program) (is : AreInRange program) (hots : (
       either_valid : Valid (either t theirs)
       either_valid = record {
         sinks = λ position x sink. or_from (t x) (theirs x) (is_best.valid.sinks position x sink) (valid.sinks position x sink);
-        hot = λ x hot. or_left (t x) (theirs x) (is_best.valid.hot x hot);
-        firm = λ x firm. or_from (t x) (theirs x) (is_best.valid.firm x firm) (valid.firm x firm);
+        transient = λ x transient. or_left (t x) (theirs x) (is_best.valid.transient x transient);
+        stable = λ x stable. or_from (t x) (theirs x) (is_best.valid.stable x stable) (valid.stable x stable);
       }
 
       both_weigh : weight_of program (crossed_by program t) ≡ weight_of program (crossed_by program (both t theirs))

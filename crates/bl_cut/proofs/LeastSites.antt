@@ -11,7 +11,7 @@ use Rattle.bl_graph.specs.Ranges.{commands, AreSites, AreInRange}
 use Rattle.bl_graph.proofs.PathCounts.{amount_if}
 use Rattle.bl_graph.proofs.FedSites.{feeds, writes_stable, crossed_by, fed_load, fed_read, fed_how, stable_write, stable_how}
 use Rattle.bl_transient.specs.Transient.{Asked, PassesUnder, TransUnder, IsFedUnder}
-use Rattle.bl_transient.proofs.LeastTypings.{is_trans, typing_trans, least_typing, least_assigns, fed_writes, passing_firm, passing_sinks}
+use Rattle.bl_transient.proofs.LeastTypings.{is_trans, typing_trans, least_typing, least_assigns, fed_writes, passing_stable, passing_sinks}
 use Rattle.bl_cut.specs.Least.{LeastUnder}
 
 -- a set without one site
@@ -53,60 +53,60 @@ module _ (asked : Asked) (program : Program) (is : AreInRange program) (set : �
       (λ t lt other. ap (λ b. amount_if b (unwrap_or (site_weight program t) 0)) (same_elsewhere s t other)) in
       omega arith
 
-  abbrev hot : ℕ → Bool
-  hot = least_typing asked program set
+  abbrev transient : ℕ → Bool
+  transient = least_typing asked program set
 
   -- a fed site that writes a stable variable
   abbrev pub IsNeeded : ℕ → Type 0
   IsNeeded s = IsFedUnder asked program set s × ((x : ℕ) × Writes program s x × (TransUnder asked program set x → ⊥))
 
-  fed_is : (s : ℕ) → feeds program hot s ≡ true → IsFedUnder asked program set s
+  fed_is : (s : ℕ) → feeds program transient s ≡ true → IsFedUnder asked program set s
   fed_is s h =
-      elim (fed_how program hot s h) as (λ _. IsFedUnder asked program set s) [
+      elim (fed_how program transient s h) as (λ _. IsFedUnder asked program set s) [
         | inl load ↦ inl load
         | inr r ↦ inr (r.0, r.1, typing_trans asked program set r.0 r.2)
       ]
 
-  needed_if : (s : ℕ) → feeds program hot s ≡ true → writes_stable program hot s ≡ true → IsNeeded s
+  needed_if : (s : ℕ) → feeds program transient s ≡ true → writes_stable program transient s ≡ true → IsNeeded s
   needed_if s fed cool =
-      let how = stable_how program hot s cool in
+      let how = stable_how program transient s cool in
       (fed_is s fed, (how.0, how.1, λ t. false≢true (sym how.2 ∙ is_trans asked program set how.0 t)))
 
-  module _ (passes : PassesUnder asked program set) (s : ℕ) (idle : crossed_by program hot s ≡ false) where
-    all_trans : (x : ℕ) → Writes program s x → feeds program hot s ≡ true → hot x ≡ true
+  module _ (passes : PassesUnder asked program set) (s : ℕ) (idle : crossed_by program transient s ≡ false) where
+    all_trans : (x : ℕ) → Writes program s x → feeds program transient s ≡ true → transient x ≡ true
     all_trans x writes fed =
-        elim (cases_Bool (hot x)) as (λ _. hot x ≡ true) [
+        elim (cases_Bool (transient x)) as (λ _. transient x ≡ true) [
           | inl e ↦ e
-          | inr e ↦ absurd (false≢true (sym idle ∙ and_from (feeds program hot s) (writes_stable program hot s) fed (stable_write program hot s x writes e)))
+          | inr e ↦ absurd (false≢true (sym idle ∙ and_from (feeds program transient s) (writes_stable program transient s) fed (stable_write program transient s x writes e)))
         ]
 
     -- without such a site the set passes
     still_passes : PassesUnder asked program (without set s)
     still_passes =
         let keeps = least_assigns asked program set in (
-          hot,
+          transient,
           record {
             assigns = record {
-              loads = λ t x load writes may. elim (left_or_it set s t may) as (λ _. IsTrue (hot x)) [
+              loads = λ t x load writes may. elim (left_or_it set s t may) as (λ _. IsTrue (transient x)) [
                 | inl free ↦ keeps.loads t x load writes free
-                | inr e ↦ all_trans x (subst (λ u. Writes program u x) e writes) (subst (λ u. feeds program hot u ≡ true) e (fed_load program hot t load))
+                | inr e ↦ all_trans x (subst (λ u. Writes program u x) e writes) (subst (λ u. feeds program transient u ≡ true) e (fed_load program transient t load))
               ];
-              moves = λ t x y reads writes may h. elim (left_or_it set s t may) as (λ _. IsTrue (hot y)) [
+              moves = λ t x y reads writes may h. elim (left_or_it set s t may) as (λ _. IsTrue (transient y)) [
                 | inl free ↦ keeps.moves t x y reads writes free h
-                | inr e ↦ all_trans y (subst (λ u. Writes program u y) e writes) (subst (λ u. feeds program hot u ≡ true) e (fed_read program hot t x reads h))
+                | inr e ↦ all_trans y (subst (λ u. Writes program u y) e writes) (subst (λ u. feeds program transient u ≡ true) e (fed_read program transient t x reads h))
               ];
               given = keeps.given;
             };
             sinks = λ position x sink. not_from_false _ (false_from_ne_true _ (λ h. passing_sinks asked program set passes position x sink (typing_trans asked program set x h)));
-            firm = λ x firm. not_from_false _ (false_from_ne_true _ (λ h. passing_firm asked program set passes x firm (typing_trans asked program set x h)));
+            stable = λ x stable. not_from_false _ (false_from_ne_true _ (λ h. passing_stable asked program set passes x stable (typing_trans asked program set x h)));
           },
         )
 
   -- each site of a lightest passing set is needed
   pub each_needed : PassesUnder asked program set → ((other : ℕ → Bool) → AreSites program other → PassesUnder asked program other → weight_of program set ≤ weight_of program other) → (s : ℕ) → IsTrue (set s) → IsNeeded s
   each_needed passes lightest s h =
-      elim (cases_Bool (crossed_by program hot s)) as (λ _. IsNeeded s) [
-        | inl e ↦ let parts = and_parts (feeds program hot s) (writes_stable program hot s) e in needed_if s parts.0 parts.1
+      elim (cases_Bool (crossed_by program transient s)) as (λ _. IsNeeded s) [
+        | inl e ↦ let parts = and_parts (feeds program transient s) (writes_stable program transient s) e in needed_if s parts.0 parts.1
         | inr e ↦
             let most = lightest (without set s) (without_sites s) (still_passes passes s e) in
             let less = lighter s h in

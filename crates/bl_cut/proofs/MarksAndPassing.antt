@@ -46,11 +46,11 @@ module _ (set : ℕ → Bool) (program : Program) where
   flows_on asked typing chosen flows = record {
     assigns = record {
       loads = λ s x load writes free. flows.assigns.loads s x (load_back s load) (writes_back s x writes) free;
-      moves = λ s x y reads writes free hot. flows.assigns.moves s x y (reads_back s x reads) (writes_back s y writes) free hot;
+      moves = λ s x y reads writes free transient. flows.assigns.moves s x y (reads_back s x reads) (writes_back s y writes) free transient;
       given = flows.assigns.given;
     };
     sinks = λ position x reads. flows.sinks position x (sinks_back position x reads);
-    firm = flows.firm;
+    stable = flows.stable;
   }
 
   pub passes_on : (chosen : ℕ → Bool) → Passes program chosen → Passes after chosen

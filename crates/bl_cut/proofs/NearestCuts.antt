@@ -64,7 +64,7 @@ module _ (asked : Asked) (program : Program) (names : List ℕ) (is : AreInRange
             let theirs = cut_weighs asked program names is n net other in
             let weighs : cut_weight n other ≡ c.weight = omega arith in
             let lies = found.nearest other (passing_cut asked program names is n net other are passes) weighs in
-            near_var asked program names is n net other x (named_trans asked program names net.named net.hot_named (cut_of c) x t)
+            near_var asked program names is n net other x (named_trans asked program names net.named net.transient_named (cut_of c) x t)
             (lies.in_parts (node_of program names x) ((found.near.in_parts (node_of program names x)).1 (near_trans asked program names is n net (cut_of c) nearest_sites x t)));
       }
 
@@ -79,11 +79,11 @@ module _ (program : Program) (names : List ℕ) (is : AreInRange program) (n : N
   start_load : (s : ℕ) → IsFirstSite nothing program s ⊎ IsAskedNode nothing program names s → IsLoad program s
   start_load s (inl (inl load)) = load
   start_load s (inl (inr one)) = absurd (false≢true one.2)
-  start_load s (inr hot) = absurd (false≢true hot.3)
+  start_load s (inr transient) = absurd (false≢true transient.3)
 
   end_sink : (x : ℕ) → IsBarred nothing program x → (position : ℕ) × SinkReads program position x
   end_sink x (inl sink) = sink
-  end_sink x (inr firm) = absurd (false≢true firm)
+  end_sink x (inr stable) = absurd (false≢true stable)
 
   module _ (sink_of : List ℕ) (knows : KnowsSinks program names sink_of) where
     abbrev back : NodePath → FlowPath

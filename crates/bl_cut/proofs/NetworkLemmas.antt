@@ -49,59 +49,59 @@ module _ (program : Program) (g : Graph) (lists : IsGraph program g) (names : Li
       (Contains-append_right (map (write_arc names (commands program)) g.writes) (map (read_arc names (commands program)) g.reads) (record { from = node_of program names x; to = v })
       (in_map (read_arc names (commands program)) g.reads (use_of v x) ((lists.reads.each v x).1 reads)))
 
-  module _ (hot firm : List ℕ) (hots : All (λ x. Contains names x) hot) (firms : All (λ x. Contains names x) firm) where
+  module _ (transient stable : List ℕ) (transients : All (λ x. Contains names x) transient) (all_stable : All (λ x. Contains names x) stable) where
     abbrev asked : Asked
-    asked = asked_of (record { hot = hot; firm = firm })
+    asked = asked_of (record { transient = transient; stable = stable })
 
-    end_kind : (v : ℕ) → Contains (map (sink_node names (commands program)) g.sinks ++ map (var_node names (commands program)) firm) v → IsEndUnder asked program names v
+    end_kind : (v : ℕ) → Contains (map (sink_node names (commands program)) g.sinks ++ map (var_node names (commands program)) stable) v → IsEndUnder asked program names v
     end_kind v h =
-        elim (Contains-append_cases (map (sink_node names (commands program)) g.sinks) (map (var_node names (commands program)) firm) v h) as (λ _. IsEndUnder asked program names v) [
+        elim (Contains-append_cases (map (sink_node names (commands program)) g.sinks) (map (var_node names (commands program)) stable) v h) as (λ _. IsEndUnder asked program names v) [
           | inl s ↦
               let found = from_map (sink_node names (commands program)) g.sinks v s in
               let sink = (lists.sinks.each found.0.at.0 found.0.var.0).0 found.1 in
               (found.0.var.0, sym found.2, are.sinks found.0.at.0 found.0.var.0 sink, inl (found.0.at.0, sink))
           | inr f ↦
-              let found = from_map (var_node names (commands program)) firm v f in
-              (found.0, sym found.2, All-contains (λ x. Contains names x) firm found.0 firms found.1, inr (in_asked firm found.0 found.1))
+              let found = from_map (var_node names (commands program)) stable v f in
+              (found.0, sym found.2, All-contains (λ x. Contains names x) stable found.0 all_stable found.1, inr (in_asked stable found.0 found.1))
         ]
 
-    barred_in : (x : ℕ) → IsBarred asked program x → Contains (map (sink_node names (commands program)) g.sinks ++ map (var_node names (commands program)) firm) (node_of program names x)
+    barred_in : (x : ℕ) → IsBarred asked program x → Contains (map (sink_node names (commands program)) g.sinks ++ map (var_node names (commands program)) stable) (node_of program names x)
     barred_in x (inl sink) =
-        Contains-append_left (map (sink_node names (commands program)) g.sinks) (map (var_node names (commands program)) firm) (node_of program names x)
+        Contains-append_left (map (sink_node names (commands program)) g.sinks) (map (var_node names (commands program)) stable) (node_of program names x)
         (in_map (sink_node names (commands program)) g.sinks (use_of sink.0 x) ((lists.sinks.each sink.0 x).1 sink.1))
-    barred_in x (inr is_firm) =
-        Contains-append_right (map (sink_node names (commands program)) g.sinks) (map (var_node names (commands program)) firm) (node_of program names x)
-        (in_map (var_node names (commands program)) firm x (asked_in firm x is_firm))
+    barred_in x (inr is_stable) =
+        Contains-append_right (map (sink_node names (commands program)) g.sinks) (map (var_node names (commands program)) stable) (node_of program names x)
+        (in_map (var_node names (commands program)) stable x (asked_in stable x is_stable))
 
-    end_of : (v : ℕ) → IsEndUnder asked program names v → Contains (map (sink_node names (commands program)) g.sinks ++ map (var_node names (commands program)) firm) v
-    end_of v end = subst (Contains (map (sink_node names (commands program)) g.sinks ++ map (var_node names (commands program)) firm)) (sym end.1) (barred_in end.0 end.3)
+    end_of : (v : ℕ) → IsEndUnder asked program names v → Contains (map (sink_node names (commands program)) g.sinks ++ map (var_node names (commands program)) stable) v
+    end_of v end = subst (Contains (map (sink_node names (commands program)) g.sinks ++ map (var_node names (commands program)) stable)) (sym end.1) (barred_in end.0 end.3)
 
-    start_kind : (s : ℕ) → Begins names (commands program) g hot s → IsFirstSite asked program s ⊎ IsAskedNode asked program names s
+    start_kind : (s : ℕ) → Begins names (commands program) g transient s → IsFirstSite asked program s ⊎ IsAskedNode asked program names s
     start_kind s (inl (inl load)) =
         let found = from_map (λ (load : Pos). load.0) g.loads s load in inl (inl (subst (IsLoad program) found.2 ((lists.loads found.0.0).0 found.1)))
-    start_kind s (inl (inr one)) = inl (inr (one.0, (lists.reads.each s one.0).0 one.1, in_asked hot one.0 one.2))
+    start_kind s (inl (inr one)) = inl (inr (one.0, (lists.reads.each s one.0).0 one.1, in_asked transient one.0 one.2))
     start_kind s (inr node) =
-        let found = from_map (var_node names (commands program)) hot s node in
-        inr (found.0, sym found.2, All-contains (λ x. Contains names x) hot found.0 hots found.1, in_asked hot found.0 found.1)
+        let found = from_map (var_node names (commands program)) transient s node in
+        inr (found.0, sym found.2, All-contains (λ x. Contains names x) transient found.0 transients found.1, in_asked transient found.0 found.1)
 
-    start_in : (s : ℕ) → IsFirstSite asked program s ⊎ IsAskedNode asked program names s → Begins names (commands program) g hot s
+    start_in : (s : ℕ) → IsFirstSite asked program s ⊎ IsAskedNode asked program names s → Begins names (commands program) g transient s
     start_in s (inl (inl load)) = inl (inl (in_map (λ (load : Pos). load.0) g.loads (record { 0 = s }) ((lists.loads s).1 load)))
-    start_in s (inl (inr one)) = inl (inr (one.0, (lists.reads.each s one.0).1 one.1, asked_in hot one.0 one.2))
+    start_in s (inl (inr one)) = inl (inr (one.0, (lists.reads.each s one.0).1 one.1, asked_in transient one.0 one.2))
     start_in s (inr node) =
-        inr (subst (Contains (map (var_node names (commands program)) hot)) (sym node.1) (in_map (var_node names (commands program)) hot node.0 (asked_in hot node.0 node.3)))
+        inr (subst (Contains (map (var_node names (commands program)) transient)) (sym node.1) (in_map (var_node names (commands program)) transient node.0 (asked_in transient node.0 node.3)))
 
     pub made_network : (n : ℕ) (weights : List (Option ℕ)) (arcs : List Arc) (starts ends : List ℕ) → n ≡ commands program → length weights ≡ n + length names
         → ((v : ℕ) → noted weights v ≡ site_weight program v) → arcs ≡ map (write_arc names n) g.writes ++ map (read_arc names n) g.reads
-        → ((s : ℕ) → Contains starts s ↔ Begins names n g hot s) → ends ≡ map (sink_node names n) g.sinks ++ map (var_node names n) firm
+        → ((s : ℕ) → Contains starts s ↔ Begins names n g transient s) → ends ≡ map (sink_node names n) g.sinks ++ map (var_node names n) stable
         → IsNetworkUnder asked program names (record { weights = weights; arcs = arcs; starts = starts; ends = ends })
     made_network n weights arcs starts ends e places weigh arcs_are starts_are ends_are =
         let all : arcs ≡ map (write_arc names (commands program)) g.writes ++ map (read_arc names (commands program)) g.reads = arcs_are ∙ ap (λ m. map (write_arc names m) g.writes ++ map (read_arc names m) g.reads) e in
-        let first = subst (λ m. (s : ℕ) → Contains starts s ↔ Begins names m g hot s) e starts_are in
-        let last : ends ≡ map (sink_node names (commands program)) g.sinks ++ map (var_node names (commands program)) firm = ends_are ∙ ap (λ m. map (sink_node names m) g.sinks ++ map (var_node names m) firm) e in
+        let first = subst (λ m. (s : ℕ) → Contains starts s ↔ Begins names m g transient s) e starts_are in
+        let last : ends ≡ map (sink_node names (commands program)) g.sinks ++ map (var_node names (commands program)) stable = ends_are ∙ ap (λ m. map (sink_node names m) g.sinks ++ map (var_node names m) stable) e in
         record {
           named = are;
-          hot_named = λ x is_hot. All-contains (λ y. Contains names y) hot x hots (asked_in hot x is_hot);
-          firm_named = λ x is_firm. All-contains (λ y. Contains names y) firm x firms (asked_in firm x is_firm);
+          transient_named = λ x is_transient. All-contains (λ y. Contains names y) transient x transients (asked_in transient x is_transient);
+          stable_named = λ x is_stable. All-contains (λ y. Contains names y) stable x all_stable (asked_in stable x is_stable);
           size_is = places ∙ ap (λ m. m + length names) e;
           weights = weigh;
           arcs = λ u v. ((λ h. arc_kind u v (subst (λ l. Contains l (record { from = u; to = v })) all h)), (λ h. subst (λ l. Contains l (record { from = u; to = v })) (sym all) (arc_of u v h)));

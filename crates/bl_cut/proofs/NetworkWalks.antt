@@ -16,7 +16,7 @@ use Rattle.bl_transient.specs.Transient.{Asked, TransUnder, loaded, moved, given
 use Rattle.bl_cut.specs.Choices.{sites_in}
 use Rattle.bl_cut.specs.Network.{node_of, ArcKind, write, read, IsFirstSite, IsNetwork, IsNetworkUnder}
 use Rattle.bl_graph.proofs.NameLemmas.{place_inj}
-use Rattle.bl_cut.proofs.TransientNodes.{TransientNode, site, variable, hot_on, hot_load, hot_var, no_var}
+use Rattle.bl_cut.proofs.TransientNodes.{TransientNode, site, variable, transient_on, transient_load, transient_var, no_var}
 
 abbrev pub HasNoneOf : (ℕ → Bool) → List ℕ → Type 0
 HasNoneOf set nodes = All (λ u. IsTrue (not (set u))) nodes
@@ -27,29 +27,29 @@ walk_on n u v w before (here _) arc = along u w w [] arc (here w)
 walk_on n u v w before (along _ x _ rest first walk) arc = along u x w (rest ++ v ∷ []) first (walk_on n x v w rest walk arc)
 
 module _ (asked : Asked) (program : Program) (names : List ℕ) (is : AreInRange program) (n : Network) (net : IsNetworkUnder asked program names n) (set : ℕ → Bool) where
-  pub walk_hot : (u v : ℕ) (before : List ℕ) → Walk n u before v → HasNoneOf set before → TransientNode asked program names set u → TransientNode asked program names set v
-  walk_hot u v before (here _) free hot = hot
-  walk_hot u v before (along _ w _ rest arc walk) free hot =
-      walk_hot w v rest walk (all_tail (λ t. IsTrue (not (set t))) u rest free)
-      (hot_on asked program names net.named net.hot_named set is u w ((net.arcs u w).0 arc) (all_head (λ t. IsTrue (not (set t))) u rest free) hot)
+  pub walk_transient : (u v : ℕ) (before : List ℕ) → Walk n u before v → HasNoneOf set before → TransientNode asked program names set u → TransientNode asked program names set v
+  walk_transient u v before (here _) free transient = transient
+  walk_transient u v before (along _ w _ rest arc walk) free transient =
+      walk_transient w v rest walk (all_tail (λ t. IsTrue (not (set t))) u rest free)
+      (transient_on asked program names net.named net.transient_named set is u w ((net.arcs u w).0 arc) (all_head (λ t. IsTrue (not (set t))) u rest free) transient)
 
-  first_hot : (s : ℕ) → IsFirstSite asked program s → TransientNode asked program names set s
-  first_hot s (inl load) = hot_load asked program names net.named net.hot_named set is s load
-  first_hot s (inr one) = site (is.sites s (is.reads s one.0 one.1).0) (inr (one.0, one.1, given one.0 one.2))
+  first_transient : (s : ℕ) → IsFirstSite asked program s → TransientNode asked program names set s
+  first_transient s (inl load) = transient_load asked program names net.named net.transient_named set is s load
+  first_transient s (inr one) = site (is.sites s (is.reads s one.0 one.1).0) (inr (one.0, one.1, given one.0 one.2))
 
   -- a start is fed, or a transient variable
-  pub start_hot : (s : ℕ) → Contains n.starts s → TransientNode asked program names set s
-  start_hot s h =
+  pub start_transient : (s : ℕ) → Contains n.starts s → TransientNode asked program names set s
+  start_transient s h =
       elim ((net.starts s).0 h) as (λ _. TransientNode asked program names set s) [
-        | inl first ↦ first_hot s first
+        | inl first ↦ first_transient s first
         | inr node ↦ variable node.0 node.1 (given node.0 node.3)
       ]
 
   -- the near side holds what is fed and what is transient, and nothing else
   pub near_var : (x : ℕ) → Contains names x → NearIn n set (node_of program names x) → TransUnder asked program set x
   near_var x has near =
-      hot_var asked program names net.named net.hot_named set x (node_of program names x) has refl
-      (walk_hot near.0 (node_of program names x) near.1 near.3 near.4 (start_hot near.0 near.2))
+      transient_var asked program names net.named net.transient_named set x (node_of program names x) has refl
+      (walk_transient near.0 (node_of program names x) near.1 near.3 near.4 (start_transient near.0 near.2))
 
   near_on : (u v : ℕ) → HasArc n u v → IsTrue (not (set u)) → NearIn n set u → NearIn n set v
   near_on u v arc may near =
@@ -64,7 +64,7 @@ module _ (asked : Asked) (program : Program) (names : List ℕ) (is : AreInRange
   near_trans sites x (moved s y _ reads writes may t) =
       near_on s (node_of program names x) ((net.arcs s (node_of program names x)).1 (write x writes refl)) may
       (near_on (node_of program names y) s ((net.arcs (node_of program names y) s).1 (read y reads refl)) (no_var program names is set sites y) (near_trans sites y t))
-  near_trans sites x (given _ hot) = near_start (node_of program names x) ((net.starts (node_of program names x)).1 (inr (x, refl, net.hot_named x hot, hot)))
+  near_trans sites x (given _ transient) = near_start (node_of program names x) ((net.starts (node_of program names x)).1 (inr (x, refl, net.transient_named x transient, transient)))
 
 -- what is left of a walk to a sink's variable, read back as sites
 data Ahead (program : Program) (names : List ℕ) (sink u : ℕ) (sites : List ℕ) : Type 0 where

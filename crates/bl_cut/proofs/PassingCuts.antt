@@ -18,11 +18,11 @@ use Rattle.bl_graph.specs.Ranges.{commands, AreSites, AreInRange}
 use Rattle.bl_graph.proofs.ChainLemmas.{all_from}
 use Rattle.bl_graph.proofs.PathCounts.{amount_if}
 use Rattle.bl_transient.specs.Transient.{Asked, PassesUnder, TransUnder}
-use Rattle.bl_transient.proofs.LeastTypings.{passes_under_if, passing_firm, passing_sinks}
+use Rattle.bl_transient.proofs.LeastTypings.{passes_under_if, passing_stable, passing_sinks}
 use Rattle.bl_cut.specs.Network.{node_of, ArcKind, write, read, IsBarred, IsEndUnder, IsFirstSite, IsAskedNode, IsNetworkUnder}
-use Rattle.bl_cut.proofs.TransientNodes.{hot_var, no_var}
+use Rattle.bl_cut.proofs.TransientNodes.{transient_var, no_var}
 use Rattle.bl_graph.proofs.NameLemmas.{place_inj, place_within}
-use Rattle.bl_cut.proofs.NetworkWalks.{HasNoneOf, near_trans, start_hot, walk_hot}
+use Rattle.bl_cut.proofs.NetworkWalks.{HasNoneOf, near_trans, start_transient, walk_transient}
 
 -- some node of a list is in a set, or none is
 any_or_free : (set : ℕ → Bool) (nodes : List ℕ) → Any (λ u. IsTrue (set u)) nodes ⊎ HasNoneOf set nodes
@@ -81,19 +81,19 @@ module _ (asked : Asked) (program : Program) (names : List ℕ) (is : AreInRange
 
   -- no variable that is asked to be transient may not be
   abbrev pub Apart : Type 0
-  Apart = (x : ℕ) → IsTrue (asked.hot x) → IsBarred asked program x → ⊥
+  Apart = (x : ℕ) → IsTrue (asked.transient x) → IsBarred asked program x → ⊥
 
   -- a walk from what is asked to be transient to an end goes through a site
   through_site : Apart → (s e : ℕ) (before : List ℕ) → IsAskedNode asked program names s → IsEndUnder asked program names e → Walk n s before e
       → Any (λ v. IsSome (weight_at n v)) (before ++ e ∷ [])
-  through_site apart s e before hot end (here _) =
-      let at = hot.1 in let to = end.1 in
-      let same : hot.0 ≡ end.0 = place_inj names hot.0 end.0 net.named.rise hot.2 end.2 (omega arith) in
-      absurd (apart end.0 (subst (λ x. IsTrue (asked.hot x)) same hot.3) end.3)
-  through_site apart s e before hot end (along _ w _ rest arc walk) = by ((net.arcs s w).0 arc)
+  through_site apart s e before transient end (here _) =
+      let at = transient.1 in let to = end.1 in
+      let same : transient.0 ≡ end.0 = place_inj names transient.0 end.0 net.named.rise transient.2 end.2 (omega arith) in
+      absurd (apart end.0 (subst (λ x. IsTrue (asked.transient x)) same transient.3) end.3)
+  through_site apart s e before transient end (along _ w _ rest arc walk) = by ((net.arcs s w).0 arc)
     where
       by : ArcKind program names s w → Any (λ v. IsSome (weight_at n v)) (s ∷ (rest ++ e ∷ []))
-      by (write x writes f) = let lt = is.sites s (is.writes s x writes).0 in let at = hot.1 in absurd (omega arith)
+      by (write x writes f) = let lt = is.sites s (is.writes s x writes).0 in let at = transient.1 in absurd (omega arith)
       by (read x reads f) =
           any_later (λ v. IsSome (weight_at n v)) s (rest ++ e ∷ []) (first_of (λ v. IsSome (weight_at n v)) w e rest walk (some_weight w (is.reads w x reads).0))
 
@@ -101,7 +101,7 @@ module _ (asked : Asked) (program : Program) (names : List ℕ) (is : AreInRange
   bounded apart s e before start last walk =
       elim ((net.starts s).0 start) as (λ _. Any (λ v. IsSome (weight_at n v)) (before ++ e ∷ [])) [
         | inl first ↦ first_of (λ v. IsSome (weight_at n v)) s e before walk (some_weight s (first_site s first))
-        | inr hot ↦ through_site apart s e before hot ((net.ends e).0 last) walk
+        | inr transient ↦ through_site apart s e before transient ((net.ends e).0 last) walk
       ]
 
   no_site : (v : ℕ) → commands program ≤ v → (o : Option ℕ) → site_weight program v ≡ o → o ≡ None
@@ -129,7 +129,7 @@ module _ (asked : Asked) (program : Program) (names : List ℕ) (is : AreInRange
   -- where a set passes, what may not be transient isn't
   barred_cold : (set : ℕ → Bool) → PassesUnder asked program set → (x : ℕ) → IsBarred asked program x → TransUnder asked program set x → ⊥
   barred_cold set passes x (inl sink) t = passing_sinks asked program set passes sink.0 x sink.1 t
-  barred_cold set passes x (inr firm) t = passing_firm asked program set passes x firm t
+  barred_cold set passes x (inr stable) t = passing_stable asked program set passes x stable t
 
   -- a passing set of sites is a cut
   pub passing_cut : (set : ℕ → Bool) → AreSites program set → PassesUnder asked program set → IsCut n set
@@ -140,8 +140,8 @@ module _ (asked : Asked) (program : Program) (names : List ℕ) (is : AreInRange
           | inl met ↦ let found = in_any (λ t. IsTrue (set t)) before met in any_in (λ t. IsTrue (set t)) found.0 (before ++ e ∷ []) (Contains-append_left before (e ∷ []) found.0 found.1) found.2
           | inr free ↦
               let end = (net.ends e).0 last in
-              let hot = walk_hot asked program names is n net set s e before walk free (start_hot asked program names is n net set s start) in
-              absurd (barred_cold set passes end.0 end.3 (hot_var asked program names net.named net.hot_named set end.0 e end.2 end.1 hot))
+              let transient = walk_transient asked program names is n net set s e before walk free (start_transient asked program names is n net set s start) in
+              absurd (barred_cold set passes end.0 end.3 (transient_var asked program names net.named net.transient_named set end.0 e end.2 end.1 transient))
         ];
   }
 
@@ -151,7 +151,7 @@ module _ (asked : Asked) (program : Program) (names : List ℕ) (is : AreInRange
   -- and a cut is a passing set of sites
   pub cut_passes : (set : ℕ → Bool) → IsCut n set → PassesUnder asked program set
   cut_passes set cut =
-      passes_under_if asked program set (λ position x sink t. cold x (net.named.sinks position x sink) (inl (position, sink)) t) (λ x firm t. cold x (net.firm_named x firm) (inr firm) t)
+      passes_under_if asked program set (λ position x sink t. cold x (net.named.sinks position x sink) (inl (position, sink)) t) (λ x stable t. cold x (net.stable_named x stable) (inr stable) t)
     where
       cold : (x : ℕ) → Contains names x → IsBarred asked program x → TransUnder asked program set x → ⊥
       cold x has barred t =

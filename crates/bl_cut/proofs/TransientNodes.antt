@@ -17,33 +17,33 @@ pub data TransientNode (asked : Asked) (program : Program) (names : List ℕ) (s
   site : v < commands program → IsFedUnder asked program set v → TransientNode asked program names set v
   variable : (x : ℕ) → v ≡ node_of program names x → TransUnder asked program set x → TransientNode asked program names set v
 
-module _ (asked : Asked) (program : Program) (names : List ℕ) (are : AreNames program names) (hots : (x : ℕ) → IsTrue (asked.hot x) → Contains names x) (set : ℕ → Bool) where
-  hot_site : (s : ℕ) → s < commands program → TransientNode asked program names set s → IsFedUnder asked program set s
-  hot_site s lt (site _ fed) = fed
-  hot_site s lt (variable x e t) = absurd (omega arith)
+module _ (asked : Asked) (program : Program) (names : List ℕ) (are : AreNames program names) (transients : (x : ℕ) → IsTrue (asked.transient x) → Contains names x) (set : ℕ → Bool) where
+  transient_site : (s : ℕ) → s < commands program → TransientNode asked program names set s → IsFedUnder asked program set s
+  transient_site s lt (site _ fed) = fed
+  transient_site s lt (variable x e t) = absurd (omega arith)
 
   pub named_trans : (x : ℕ) → TransUnder asked program set x → Contains names x
   named_trans x (loaded s _ load writes may) = are.writes s x writes
   named_trans x (moved s y _ reads writes may t) = are.writes s x writes
-  named_trans x (given _ hot) = hots x hot
+  named_trans x (given _ transient) = transients x transient
 
-  pub hot_var : (x v : ℕ) → Contains names x → v ≡ node_of program names x → TransientNode asked program names set v → TransUnder asked program set x
-  hot_var x v has e (site lt _) = absurd (omega arith)
-  hot_var x v has e (variable y f t) = subst (TransUnder asked program set) (place_inj names y x are.rise (named_trans y t) has (omega arith)) t
+  pub transient_var : (x v : ℕ) → Contains names x → v ≡ node_of program names x → TransientNode asked program names set v → TransUnder asked program set x
+  transient_var x v has e (site lt _) = absurd (omega arith)
+  transient_var x v has e (variable y f t) = subst (TransUnder asked program set) (place_inj names y x are.rise (named_trans y t) has (omega arith)) t
 
   module _ (is : AreInRange program) where
     after_write : (u v x : ℕ) → Writes program u x → v ≡ node_of program names x → IsTrue (not (set u)) → TransientNode asked program names set u → TransientNode asked program names set v
-    after_write u v x writes e may hot = variable x e (fed_writes asked program set u x (hot_site u (is.sites u (is.writes u x writes).0) hot) writes may)
+    after_write u v x writes e may transient = variable x e (fed_writes asked program set u x (transient_site u (is.sites u (is.writes u x writes).0) transient) writes may)
 
     after_read : (u v x : ℕ) → Reads program v x → u ≡ node_of program names x → TransientNode asked program names set u → TransientNode asked program names set v
-    after_read u v x reads e hot = site (is.sites v (is.reads v x reads).0) (inr (x, reads, hot_var x u (are.reads v x reads) e hot))
+    after_read u v x reads e transient = site (is.sites v (is.reads v x reads).0) (inr (x, reads, transient_var x u (are.reads v x reads) e transient))
 
-    pub hot_on : (u v : ℕ) → ArcKind program names u v → IsTrue (not (set u)) → TransientNode asked program names set u → TransientNode asked program names set v
-    hot_on u v (write x writes e) may hot = after_write u v x writes e may hot
-    hot_on u v (read x reads e) may hot = after_read u v x reads e hot
+    pub transient_on : (u v : ℕ) → ArcKind program names u v → IsTrue (not (set u)) → TransientNode asked program names set u → TransientNode asked program names set v
+    transient_on u v (write x writes e) may transient = after_write u v x writes e may transient
+    transient_on u v (read x reads e) may transient = after_read u v x reads e transient
 
-    pub hot_load : (s : ℕ) → IsLoad program s → TransientNode asked program names set s
-    hot_load s load = site (is.sites s (is.loads s load)) (inl load)
+    pub transient_load : (s : ℕ) → IsLoad program s → TransientNode asked program names set s
+    transient_load s load = site (is.sites s (is.loads s load)) (inl load)
 
 pub no_var : (program : Program) (names : List ℕ) → AreInRange program → (set : ℕ → Bool) → AreSites program set → (x : ℕ) → IsTrue (not (set (node_of program names x)))
 no_var program names is set sites x =

@@ -26,11 +26,11 @@ pub data ArcKind (program : Program) (names : List ℕ) (u v : ℕ) : Type 0 whe
 
 -- a node is that of a variable that is asked to be transient
 abbrev pub IsAskedNode : Asked → Program → List ℕ → ℕ → Type 0
-IsAskedNode asked program names v = (x : ℕ) × (v ≡ node_of program names x) × Contains names x × IsTrue (asked.hot x)
+IsAskedNode asked program names v = (x : ℕ) × (v ≡ node_of program names x) × Contains names x × IsTrue (asked.transient x)
 
 -- a site reads a variable that is asked to be transient
 abbrev pub ReadsAsked : Asked → Program → ℕ → Type 0
-ReadsAsked asked program s = (x : ℕ) × Reads program s x × IsTrue (asked.hot x)
+ReadsAsked asked program s = (x : ℕ) × Reads program s x × IsTrue (asked.transient x)
 
 -- a site at which walks begin: a load, or a site that reads what is asked to be transient
 abbrev pub IsFirstSite : Asked → Program → ℕ → Type 0
@@ -38,7 +38,7 @@ IsFirstSite asked program s = IsLoad program s ⊎ ReadsAsked asked program s
 
 -- a variable may not be transient: a sink reads it, or it is asked to be stable
 abbrev pub IsBarred : Asked → Program → ℕ → Type 0
-IsBarred asked program x = ((position : ℕ) × SinkReads program position x) ⊎ IsTrue (asked.firm x)
+IsBarred asked program x = ((position : ℕ) × SinkReads program position x) ⊎ IsTrue (asked.stable x)
 
 -- a node is that of a named variable that may not be transient
 abbrev pub IsEndUnder : Asked → Program → List ℕ → ℕ → Type 0
@@ -47,8 +47,8 @@ IsEndUnder asked program names v = (x : ℕ) × (v ≡ node_of program names x) 
 -- walks begin at the loads, at what is asked to be transient and at the sites that read it, and end at what may not be transient
 pub record IsNetworkUnder (asked : Asked) (program : Program) (names : List ℕ) (n : Network) : Type 0 where
   pub named : AreNames program names
-  pub hot_named : (x : ℕ) → IsTrue (asked.hot x) → Contains names x
-  pub firm_named : (x : ℕ) → IsTrue (asked.firm x) → Contains names x
+  pub transient_named : (x : ℕ) → IsTrue (asked.transient x) → Contains names x
+  pub stable_named : (x : ℕ) → IsTrue (asked.stable x) → Contains names x
   pub size_is : size n ≡ commands program + length names
   pub weights : (v : ℕ) → weight_at n v ≡ site_weight program v
   pub arcs : (u v : ℕ) → HasArc n u v ↔ ArcKind program names u v

@@ -32,8 +32,8 @@ pub fn at_most_one_least()
 /// isn't asked to be stable too, and no sink reads it.
 pub fn some_set_is_least()
     ensures least { (program : ProgramParts) → AreInRange program → (set : ℕ → Bool) × Least program set }
-    ensures under { (asked : Asked) (program : ProgramParts) → AreInRange program → ((x : ℕ) → IsTrue (asked.hot x) → x < variables program)
-        → ((x : ℕ) → IsTrue (asked.hot x) → IsBarred asked program x → ⊥) → (set : ℕ → Bool) × LeastUnder asked program set }
+    ensures under { (asked : Asked) (program : ProgramParts) → AreInRange program → ((x : ℕ) → IsTrue (asked.transient x) → x < variables program)
+        → ((x : ℕ) → IsTrue (asked.transient x) → IsBarred asked program x → ⊥) → (set : ℕ → Bool) × LeastUnder asked program set }
 {}
 
 /// The cuts of a program's network over names are the passing sets of sites, with the same weights; the near side of a cut holds

@@ -23,14 +23,14 @@ pub(crate) fn network(
     program: &WellFormed,
     graph: &Graph,
     names: &Names,
-    hot: &[u32],
-    firm: &[u32],
+    transient: &[u32],
+    stable: &[u32],
 ) -> Result<Network, NoMemory>
     requires graph { IsGraph program.now graph.now }
     requires names { AreNames program.now names.now }
-    requires hot { All (λ x. Contains names.now x) hot.now }
-    requires firm { All (λ x. Contains names.now x) firm.now }
-    ensures { IfOk result (λ network. IsNetworkUnder (asked_of (record { hot = hot.now; firm = firm.now })) program.now names.now network) }
+    requires transient { All (λ x. Contains names.now x) transient.now }
+    requires stable { All (λ x. Contains names.now x) stable.now }
+    ensures { IfOk result (λ network. IsNetworkUnder (asked_of (record { transient = transient.now; stable = stable.now })) program.now names.now network) }
 {
     ranges(program);
     let commands = program.program().parts().commands.len() as u32;
@@ -40,8 +40,8 @@ pub(crate) fn network(
     push_writes(&mut arcs, commands, names, graph.writes.as_slice())?;
     push_reads(&mut arcs, commands, names, graph.reads.as_slice())?;
     let weights = node_weights(alloc, program, graph.writes.as_slice(), nodes)?;
-    let starts = start_nodes(alloc, commands, names, graph, hot)?;
-    let ends = end_nodes(alloc, commands, names, graph.sinks.as_slice(), firm)?;
+    let starts = start_nodes(alloc, commands, names, graph, transient)?;
+    let ends = end_nodes(alloc, commands, names, graph.sinks.as_slice(), stable)?;
     Ok(Network {
         weights: List::of(weights),
         arcs: List::of(arcs),

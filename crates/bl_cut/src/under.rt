@@ -36,18 +36,18 @@ pub fn least_under_of(
     asked: &AskedOf,
 ) -> Result<ChoiceUnder, NoMemory>
     requires graph { IsGraph program.now graph.now }
-    requires hot { All (λ x. x < variables program.now) asked.now.hot }
-    requires firm { All (λ x. x < variables program.now) asked.now.firm }
-    requires apart { (x : ℕ) → Contains asked.now.hot x → Contains asked.now.firm x → ⊥ }
-    requires sinks { (position x : ℕ) → SinkReads program.now position x → Contains asked.now.hot x → ⊥ }
+    requires transient { All (λ x. x < variables program.now) asked.now.transient }
+    requires stable { All (λ x. x < variables program.now) asked.now.stable }
+    requires apart { (x : ℕ) → Contains asked.now.transient x → Contains asked.now.stable x → ⊥ }
+    requires sinks { (position x : ℕ) → SinkReads program.now position x → Contains asked.now.transient x → ⊥ }
     ensures least { IfOk result (λ choice. LeastUnder (asked_of asked.now) program.now (fin.contains choice.protects)) }
     ensures weight { IfOk result (λ choice. choice.weight ≡ weight_of program.now (fin.contains choice.protects)) }
 {
     ranges(program);
-    let hot = asked.hot.as_slice();
-    let firm = asked.firm.as_slice();
+    let transient = asked.transient.as_slice();
+    let stable = asked.stable.as_slice();
     let names = names_under(alloc, program, graph, asked)?;
-    let network = network(alloc, program, graph, &names, hot, firm)?;
+    let network = network(alloc, program, graph, &names, transient, stable)?;
     let cut = least_cut_of(alloc, network)?;
     let commands = program.program().parts().commands.len() as u32;
     let protects = cut_sites(alloc, commands, &cut)?;

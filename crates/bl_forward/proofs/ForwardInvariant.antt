@@ -29,9 +29,9 @@ use Rattle.bl_sct.proofs.StepAgreement.{LiesIn, InsideOf, inside_from, plain_of}
 use Rattle.bl_sct.proofs.Loads.{IsOpened, opened_by, within, reached_run, ran_reached, ran_long}
 use Rattle.bl_forward.specs.declared.find.Found.{Found}
 use Rattle.bl_forward.specs.declared.find.Found.TheVariants.{Memory, Stored, Blocked}
-use Rattle.bl_forward.specs.ForwardMachines.{found_in, turned_by, turned_from, turned, plainly, stepped, exec_work, exec_at, forward_step}
-use Rattle.bl_forward.specs.declared.load.Turn.{Turn}
-use Rattle.bl_forward.specs.declared.load.Turn.TheVariants as turn
+use Rattle.bl_forward.specs.ForwardMachines.{found_in, execution_by, execution_from, execution_of, plainly, stepped, exec_work, exec_at, forward_step}
+use Rattle.bl_forward.specs.declared.load.Execution.{Execution}
+use Rattle.bl_forward.specs.declared.load.Execution.TheVariants as execution
 use Rattle.bl_forward.specs.declared.seen.Seen.{Seen}
 use Rattle.bl_forward.specs.declared.seen.Seen.TheVariants.{Plain, Forward}
 use Rattle.bl_forward.proofs.ReadyStores.{Right, all}
@@ -66,8 +66,8 @@ module _ (program : Program) (facts : IsProgram program) (rules : IsWellFormed p
   lies_by c protect kind memory to offset address Nowhere h i = absurd h
 
   module _ (plain : Option (State × Seen)) (s : State) (k : Kept program from s) (n position : ℕ) (protect : Bool) (kind : AccessKind) (memory : ℕ) (to : Register) (offset : ℕ) (source : Source) where
-    abbrev turns : Turn → Option (State × Seen)
-    turns = stepped plain s n position
+    abbrev executes : Execution → Option (State × Seen)
+    executes = stepped plain s n position
 
     abbrev load : Work
     load = Load protect kind memory to offset source
@@ -96,7 +96,7 @@ module _ (program : Program) (facts : IsProgram program) (rules : IsWellFormed p
         → ((d : Config) → Along program pre (committed s.registers) k.config d
         → effective program memory offset address + width_of kind ≤ length k.config.space
         → value ≡ loaded kind d.space (effective program memory offset address))
-        → Holds (Stays program k.config s.retired) (turns (turn.Fills (valued protect to value) seen))
+        → Holds (Stays program k.config s.retired) (executes (execution.Fills (valued protect to value) seen))
     fill_ok address value seen at shows is =
         acted_ok program k.config s k.inv n pre post (entry_at position load) (Becomes (valued protect to value) observation.Nothing) refl refl
         (subst (λ b. Tracks program b k.config s.front) (split s.buffer n (entry_at position load) at) k.inv.tracks)
@@ -111,7 +111,7 @@ module _ (program : Program) (facts : IsProgram program) (rules : IsWellFormed p
 
     takes_ok : (address : ℕ) (found : Found) → slice_get s.buffer n ≡ Some (entry_at position load) → visible_of s.registers pre source ≡ Some address
         → has_pending pre ≡ false → found_in program (effective program memory offset address) (width_of kind) pre ≡ found
-        → Holds (Stays program k.config s.retired) (turns (turned_by s.space (guards pre) protect kind to (effective program memory offset address) (Some found)))
+        → Holds (Stays program k.config s.retired) (executes (execution_by s.space (guards pre) protect kind to (effective program memory offset address) (Some found)))
     takes_ok address Memory at shows q e =
         fill_ok address _ (Plain (observation.Read (effective program memory offset address) (guards pre))) at shows (λ d a room.
         let right = all (effective program memory offset address) (width_of kind) k.config.space program pre k.config.space Memory room refl in
@@ -130,18 +130,18 @@ module _ (program : Program) (facts : IsProgram program) (rules : IsWellFormed p
     settled_ok : (address : ℕ) (pending : Bool) → slice_get s.buffer n ≡ Some (entry_at position load) → visible_of s.registers pre source ≡ Some address
         → has_pending pre ≡ pending
         → Holds (Stays program k.config s.retired)
-        (turns (turned_by s.space (guards pre) protect kind to (effective program memory offset address)
+        (executes (execution_by s.space (guards pre) protect kind to (effective program memory offset address)
         (if pending then None else Some (found_in program (effective program memory offset address) (width_of kind) pre))))
     settled_ok address true at shows q = tt
     settled_ok address false at shows q = takes_ok address _ at shows q refl
 
     fills_ok : (o : Option ℕ) → slice_get s.buffer n ≡ Some (entry_at position load) → visible_of s.registers pre source ≡ o
-        → Holds (Stays program k.config s.retired) (turns (turned_from program s.space pre protect kind memory to offset o))
+        → Holds (Stays program k.config s.retired) (executes (execution_from program s.space pre protect kind memory to offset o))
     fills_ok None at shows = tt
     fills_ok (Some address) at shows = settled_ok address _ at shows refl
 
-    load_ok : slice_get s.buffer n ≡ Some (entry_at position load) → Holds (Kept program from) (turns (turned program s pre load))
-    load_ok at = stays program from k.config s.retired (turns (turned program s pre load)) k.ran (fills_ok _ at refl)
+    load_ok : slice_get s.buffer n ≡ Some (entry_at position load) → Holds (Kept program from) (executes (execution_of program s pre load))
+    load_ok at = stays program from k.config s.retired (executes (execution_of program s pre load)) k.ran (fills_ok _ at refl)
 
   plain_ok : (most : ℕ) (s : State) (d : Directive) → Kept program from s → Holds (Kept program from) (plainly (directive_step most program s d))
   plain_ok most s d k = plainly_holds (Kept program from) (directive_step most program s d) (step_ok program from most s d k)

@@ -35,9 +35,9 @@ use Rattle.bl_sct.specs.OtherSecrets.{HidesGlobalsBy}
 use Rattle.bl_sct.proofs.Loads.{opened_by}
 use Rattle.bl_forward.specs.declared.find.Found.{Found}
 use Rattle.bl_forward.specs.declared.find.Found.TheVariants.{Memory, Stored, Blocked}
-use Rattle.bl_forward.specs.ForwardMachines.{meets, supplied, found_from, found_in, turned_by, turned_from, turned, plainly, stepped, exec_work, exec_at, forward_step, HasEqualForwarding}
-use Rattle.bl_forward.specs.declared.load.Turn.{Turn}
-use Rattle.bl_forward.specs.declared.load.Turn.TheVariants as turn
+use Rattle.bl_forward.specs.ForwardMachines.{meets, supplied, found_from, found_in, execution_by, execution_from, execution_of, plainly, stepped, exec_work, exec_at, forward_step, HasEqualForwarding}
+use Rattle.bl_forward.specs.declared.load.Execution.{Execution}
+use Rattle.bl_forward.specs.declared.load.Execution.TheVariants as execution
 use Rattle.bl_forward.specs.declared.seen.Seen.{Seen}
 use Rattle.bl_forward.specs.declared.seen.Seen.TheVariants.{Plain as Shown, Forward}
 use Rattle.bl_forward.proofs.ForwardInvariant.{forward_ok}
@@ -111,10 +111,10 @@ plainly_twins R (Some a) None h = absurd h
 module _ (clear : ℕ → Bool) (program : Program) (x y : Option (State × Seen)) (s t : State) (r : Rel clear s t) (n position : ℕ) (protect : Bool) (kind : AccessKind) (memory : ℕ)
     (to : Register) (offset : ℕ) (dark : protect ≡ false → IsTrue (clear to.var) → ⊥) where
   -- both loads' steps are alike
-  abbrev TurnAlike : Turn → Turn → Type 0
-  TurnAlike one other = Twin (Rel clear) (stepped x s n position one) (stepped y t n position other)
+  abbrev ExecutionAlike : Execution → Execution → Type 0
+  ExecutionAlike one other = Twin (Rel clear) (stepped x s n position one) (stepped y t n position other)
 
-  fills_alike : (v w : ℕ) (a b : Seen) → a ≡ b → TurnAlike (turn.Fills (valued protect to v) a) (turn.Fills (valued protect to w) b)
+  fills_alike : (v w : ℕ) (a b : Seen) → a ≡ b → ExecutionAlike (execution.Fills (valued protect to v) a) (execution.Fills (valued protect to w) b)
   fills_alike v w a b e =
       let h = valued_same clear protect to v w (λ q c. absurd (dark q c)) in (
         e,
@@ -126,41 +126,41 @@ module _ (clear : ℕ → Bool) (program : Program) (x y : Option (State × Seen
         },
       )
 
-  found_turns : (from one other : ℕ) (v w : Found) → one ≡ other → FoundAlike v w
-      → TurnAlike (turned_by s.space one protect kind to from (Some v)) (turned_by t.space other protect kind to from (Some w))
-  found_turns from one other Memory Memory e h = fills_alike _ _ _ _ (ap (λ mask. Shown (observed.Read from mask)) e)
-  found_turns from one other (Stored v) (Stored w) e h = fills_alike _ _ _ _ (ap (λ mask. Forward from mask) e)
-  found_turns from one other Blocked Blocked e h = tt
-  found_turns from one other Memory (Stored w) e h = absurd h
-  found_turns from one other Memory Blocked e h = absurd h
-  found_turns from one other (Stored v) Memory e h = absurd h
-  found_turns from one other (Stored v) Blocked e h = absurd h
-  found_turns from one other Blocked Memory e h = absurd h
-  found_turns from one other Blocked (Stored w) e h = absurd h
+  found_executes : (from one other : ℕ) (v w : Found) → one ≡ other → FoundAlike v w
+      → ExecutionAlike (execution_by s.space one protect kind to from (Some v)) (execution_by t.space other protect kind to from (Some w))
+  found_executes from one other Memory Memory e h = fills_alike _ _ _ _ (ap (λ mask. Shown (observed.Read from mask)) e)
+  found_executes from one other (Stored v) (Stored w) e h = fills_alike _ _ _ _ (ap (λ mask. Forward from mask) e)
+  found_executes from one other Blocked Blocked e h = tt
+  found_executes from one other Memory (Stored w) e h = absurd h
+  found_executes from one other Memory Blocked e h = absurd h
+  found_executes from one other (Stored v) Memory e h = absurd h
+  found_executes from one other (Stored v) Blocked e h = absurd h
+  found_executes from one other Blocked Memory e h = absurd h
+  found_executes from one other Blocked (Stored w) e h = absurd h
 
-  abbrev behind : ℕ → State → Bool → Turn
+  abbrev behind : ℕ → State → Bool → Execution
   behind from q pending =
-      turned_by q.space (guards (take n q.buffer)) protect kind to from (if pending then None else Some (found_in program from (width_of kind) (take n q.buffer)))
+      execution_by q.space (guards (take n q.buffer)) protect kind to from (if pending then None else Some (found_in program from (width_of kind) (take n q.buffer)))
 
-  pending_turns : (from : ℕ) (b c : Bool) → b ≡ c → TurnAlike (behind from s b) (behind from t c)
-  pending_turns from true true e = tt
-  pending_turns from false false e =
+  pending_executes : (from : ℕ) (b c : Bool) → b ≡ c → ExecutionAlike (behind from s b) (behind from t c)
+  pending_executes from true true e = tt
+  pending_executes from false false e =
       let m = same_take clear n s.buffer t.buffer r.entries in
-      found_turns from _ _ _ _ (same_kinds clear (take n s.buffer) (take n t.buffer) m).guards_are
+      found_executes from _ _ _ _ (same_kinds clear (take n s.buffer) (take n t.buffer) m).guards_are
       (found_alike clear program from (width_of kind) (take n s.buffer) (take n t.buffer) Memory Memory m tt)
-  pending_turns from true false e = cc
-  pending_turns from false true e = cc
+  pending_executes from true false e = cc
+  pending_executes from false true e = cc
 
-  abbrev from_address : State → Option ℕ → Turn
-  from_address q = turned_from program q.space (take n q.buffer) protect kind memory to offset
+  abbrev from_address : State → Option ℕ → Execution
+  from_address q = execution_from program q.space (take n q.buffer) protect kind memory to offset
 
-  load_turns : (o p : Option ℕ) → AlikeAt true o p → TurnAlike (from_address s o) (from_address t p)
-  load_turns None None h = tt
-  load_turns (Some v) (Some w) h =
-      subst (λ z. TurnAlike (from_address s (Some v)) (from_address t (Some z))) (h refl)
-      (pending_turns (effective program memory offset v) _ _ (pending_alike clear (take n s.buffer) (take n t.buffer) (same_take clear n s.buffer t.buffer r.entries)))
-  load_turns None (Some w) h = absurd h
-  load_turns (Some v) None h = absurd h
+  load_executes : (o p : Option ℕ) → AlikeAt true o p → ExecutionAlike (from_address s o) (from_address t p)
+  load_executes None None h = tt
+  load_executes (Some v) (Some w) h =
+      subst (λ z. ExecutionAlike (from_address s (Some v)) (from_address t (Some z))) (h refl)
+      (pending_executes (effective program memory offset v) _ _ (pending_alike clear (take n s.buffer) (take n t.buffer) (same_take clear n s.buffer t.buffer r.entries)))
+  load_executes None (Some w) h = absurd h
+  load_executes (Some v) None h = absurd h
 
 -- ---- each directive
 
@@ -193,7 +193,7 @@ module _ (program : Program) (facts : IsProgram program) (rules : IsWellFormed p
     equal_twins n at Nop k x = plain_twins (Exec n)
     equal_twins n at (Assign protect op to a b c) k x = plain_twins (Exec n)
     equal_twins n at (Load protect kind memory to offset address) k x =
-        load_turns fit program (plainly (directive_step most program s (Exec n))) (plainly (directive_step most program t (Exec n))) s t r n at protect kind memory to offset k.1 _ _
+        load_executes fit program (plainly (directive_step most program s (Exec n))) (plainly (directive_step most program t (Exec n))) s t r n at protect kind memory to offset k.1 _ _
         (clear_source fit s.registers t.registers (take n s.buffer) (take n t.buffer) address k.0 (same_take fit n s.buffer t.buffer r.entries)
         (agree_with n at (Load protect kind memory to offset address) x))
     equal_twins n at (Held to value) k x = plain_twins (Exec n)
@@ -239,23 +239,23 @@ module _ (program : Program) (globals : List GlobalDef) (same : length globals �
   plain_same most s d = ap plainly (step_same program globals same most s d)
 
   from_same : (s : State) (entries : List Entry) (protect : Bool) (kind : AccessKind) (memory : ℕ) (to : Register) (offset : ℕ) (o : Option ℕ)
-      → turned_from other s.space entries protect kind memory to offset o ≡ turned_from program s.space entries protect kind memory to offset o
+      → execution_from other s.space entries protect kind memory to offset o ≡ execution_from program s.space entries protect kind memory to offset o
   from_same s entries protect kind memory to offset None = refl
   from_same s entries protect kind memory to offset (Some address) = refl
 
-  turned_same : (s : State) (entries : List Entry) (e : Work) → turned other s entries e ≡ turned program s entries e
-  turned_same s entries (Load protect kind memory to offset address) = from_same s entries protect kind memory to offset (visible_of s.registers entries address)
-  turned_same s entries Nop = refl
-  turned_same s entries (Assign protect op to a b c) = refl
-  turned_same s entries (Held to value) = refl
-  turned_same s entries (Done to value) = refl
-  turned_same s entries (Store kind memory offset address value) = refl
-  turned_same s entries (Ready kind memory offset address value) = refl
-  turned_same s entries (Guard cond predicted branch chain) = refl
-  turned_same s entries (Fail kind) = refl
+  execution_same : (s : State) (entries : List Entry) (e : Work) → execution_of other s entries e ≡ execution_of program s entries e
+  execution_same s entries (Load protect kind memory to offset address) = from_same s entries protect kind memory to offset (visible_of s.registers entries address)
+  execution_same s entries Nop = refl
+  execution_same s entries (Assign protect op to a b c) = refl
+  execution_same s entries (Held to value) = refl
+  execution_same s entries (Done to value) = refl
+  execution_same s entries (Store kind memory offset address value) = refl
+  execution_same s entries (Ready kind memory offset address value) = refl
+  execution_same s entries (Guard cond predicted branch chain) = refl
+  execution_same s entries (Fail kind) = refl
 
   work_same : (most : ℕ) (s : State) (n position : ℕ) (e : Work) → exec_work most other s n position e ≡ exec_work most program s n position e
-  work_same most s n position e i = stepped (plain_same most s (Exec n) i) s n position (turned_same s (take n s.buffer) e i)
+  work_same most s n position e i = stepped (plain_same most s (Exec n) i) s n position (execution_same s (take n s.buffer) e i)
 
   exec_same : (most : ℕ) (s : State) (n : ℕ) (o : Option Entry) → exec_at most other s n o ≡ exec_at most program s n o
   exec_same most s n None = refl

@@ -2,4 +2,4 @@ pub mod ReadyStores
 pub mod FindLemmas
 pub mod ForwardPairs
 pub mod ForwardInvariant
-pub mod TurnLemmas
+pub mod ExecutionLemmas

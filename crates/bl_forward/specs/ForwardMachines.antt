@@ -20,8 +20,8 @@ use Rattle.bl_rob.specs.declared.entry.Work.{Work}
 use Rattle.bl_rob.specs.declared.entry.Work.TheVariants.{Nop, Assign, Load, Held, Done, Store, Ready, Guard, Fail}
 use Rattle.bl_forward.specs.declared.find.Found.{Found}
 use Rattle.bl_forward.specs.declared.find.Found.TheVariants.{Memory, Stored, Blocked}
-use Rattle.bl_forward.specs.declared.load.Turn.{Turn}
-use Rattle.bl_forward.specs.declared.load.Turn.TheVariants as turn
+use Rattle.bl_forward.specs.declared.load.Execution.{Execution}
+use Rattle.bl_forward.specs.declared.load.Execution.TheVariants as execution
 use Rattle.bl_forward.specs.declared.seen.Seen.{Seen}
 use Rattle.bl_forward.specs.declared.seen.Seen.TheVariants.{Plain, Forward}
 
@@ -64,31 +64,31 @@ found_behind program from width entries = if has_pending entries then None else 
 
 -- what a load from a place on comes to, with these guards before it, by where it finds its bytes: its entry is done, or held where it is protected,
 -- with what memory has, which is observed as a read, or with what the store has, which is observed as a forward; else it waits
-abbrev pub turned_by : List ℕ → ℕ → Bool → AccessKind → Register → ℕ → Option Found → Turn
-turned_by space mask protect kind to from None = turn.Waits
-turned_by space mask protect kind to from (Some Memory) = turn.Fills (valued protect to (loaded kind space from)) (Plain (observed.Read from mask))
-turned_by space mask protect kind to from (Some (Stored number)) = turn.Fills (valued protect to (extended kind number)) (Forward from mask)
-turned_by space mask protect kind to from (Some Blocked) = turn.Waits
+abbrev pub execution_by : List ℕ → ℕ → Bool → AccessKind → Register → ℕ → Option Found → Execution
+execution_by space mask protect kind to from None = execution.Waits
+execution_by space mask protect kind to from (Some Memory) = execution.Fills (valued protect to (loaded kind space from)) (Plain (observed.Read from mask))
+execution_by space mask protect kind to from (Some (Stored number)) = execution.Fills (valued protect to (extended kind number)) (Forward from mask)
+execution_by space mask protect kind to from (Some Blocked) = execution.Waits
 
 -- what a load behind entries comes to, where its address is visible or isn't
-abbrev pub turned_from : Program → List ℕ → List Entry → Bool → AccessKind → ℕ → Register → ℕ → Option ℕ → Turn
-turned_from program space entries protect kind memory to offset None = turn.Waits
-turned_from program space entries protect kind memory to offset (Some address) =
+abbrev pub execution_from : Program → List ℕ → List Entry → Bool → AccessKind → ℕ → Register → ℕ → Option ℕ → Execution
+execution_from program space entries protect kind memory to offset None = execution.Waits
+execution_from program space entries protect kind memory to offset (Some address) =
     let from = effective program memory offset address in
-    turned_by space (guards entries) protect kind to from (found_behind program from (width_of kind) entries)
+    execution_by space (guards entries) protect kind to from (found_behind program from (width_of kind) entries)
 
 -- what work behind entries comes to: all but a pending load does what it does in the buffer machine
-abbrev pub turned : Program → State → List Entry → Work → Turn
-turned program s entries Nop = turn.Plain
-turned program s entries (Assign protect op to a b c) = turn.Plain
-turned program s entries (Load protect kind memory to offset address) =
-    turned_from program s.space entries protect kind memory to offset (visible_of s.registers entries address)
-turned program s entries (Held to value) = turn.Plain
-turned program s entries (Done to value) = turn.Plain
-turned program s entries (Store kind memory offset address value) = turn.Plain
-turned program s entries (Ready kind memory offset address value) = turn.Plain
-turned program s entries (Guard cond predicted other chain) = turn.Plain
-turned program s entries (Fail kind) = turn.Plain
+abbrev pub execution_of : Program → State → List Entry → Work → Execution
+execution_of program s entries Nop = execution.Plain
+execution_of program s entries (Assign protect op to a b c) = execution.Plain
+execution_of program s entries (Load protect kind memory to offset address) =
+    execution_from program s.space entries protect kind memory to offset (visible_of s.registers entries address)
+execution_of program s entries (Held to value) = execution.Plain
+execution_of program s entries (Done to value) = execution.Plain
+execution_of program s entries (Store kind memory offset address value) = execution.Plain
+execution_of program s entries (Ready kind memory offset address value) = execution.Plain
+execution_of program s entries (Guard cond predicted other chain) = execution.Plain
+execution_of program s entries (Fail kind) = execution.Plain
 
 -- ---- directives
 
@@ -97,14 +97,14 @@ abbrev pub plainly : Option (State × Observation) → Option (State × Seen)
 plainly = told_as Plain
 
 -- the step of an entry by what it comes to: the buffer machine's, none, or to its new work
-abbrev pub stepped : Option (State × Seen) → State → ℕ → ℕ → Turn → Option (State × Seen)
-stepped plain s n position turn.Plain = plain
-stepped plain s n position turn.Waits = None
-stepped plain s n position (turn.Fills work seen) = Some (become n position work s, seen)
+abbrev pub stepped : Option (State × Seen) → State → ℕ → ℕ → Execution → Option (State × Seen)
+stepped plain s n position execution.Plain = plain
+stepped plain s n position execution.Waits = None
+stepped plain s n position (execution.Fills work seen) = Some (become n position work s, seen)
 
 abbrev pub exec_work : ℕ → Program → State → ℕ → ℕ → Work → Option (State × Seen)
 exec_work most program s n position work =
-    stepped (plainly (directive_step most program s (Exec n))) s n position (turned program s (take n s.buffer) work)
+    stepped (plainly (directive_step most program s (Exec n))) s n position (execution_of program s (take n s.buffer) work)
 
 abbrev pub exec_at : ℕ → Program → State → ℕ → Option Entry → Option (State × Seen)
 exec_at most program s n None = None
@@ -125,12 +125,12 @@ other_steps most program s (Exec n) other = absurd other
 other_steps most program s Retire other = refl
 
 -- what the entry of an index comes to, where there is one
-abbrev pub turned_where : Program → State → ℕ → Option Entry → Turn
-turned_where program s n None = turn.Plain
-turned_where program s n (Some entry) = turned program s (take n s.buffer) entry.work
+abbrev pub execution_where : Program → State → ℕ → Option Entry → Execution
+execution_where program s n None = execution.Plain
+execution_where program s n (Some entry) = execution_of program s (take n s.buffer) entry.work
 
-abbrev pub turned_at : Program → State → ℕ → Turn
-turned_at program s n = turned_where program s n (slice_get s.buffer n)
+abbrev pub execution_at : Program → State → ℕ → Execution
+execution_at program s n = execution_where program s n (slice_get s.buffer n)
 
 -- ---- lists of directives
 

@@ -3,7 +3,7 @@ ghost use Rattle.std.specs.Prelude.{◌≡◌, ◌≤◌, length};
 ghost use Rattle.bl_seq.specs.Layouts.{IsLayout};
 ghost use Rattle.bl_rob.specs.CallResults.{shown};
 ghost use Rattle.bl_rob.specs.LoadPolicies.{answer_as};
-ghost use Rattle.bl_forward.specs.ForwardMachines.{forward_step, other_steps, turned_at, turned_from};
+ghost use Rattle.bl_forward.specs.ForwardMachines.{forward_step, other_steps, execution_at, execution_from};
 ghost use Rattle.bl_forward.specs.declared.seen.Seen.TheVariants.{Plain};
 
 use crate::find::{Found, found_behind};
@@ -19,7 +19,7 @@ use std::alloc::Global;
 
 /// What executing an entry comes to.
 #[derive(Debug, Drop)]
-pub enum Turn {
+pub enum Execution {
     /// What it comes to in the buffer machine.
     Plain,
     /// It is a load that can't be executed yet.
@@ -29,13 +29,13 @@ pub enum Turn {
 }
 
 /// What the entry of that index comes to.
-pub fn turn_at(machine: &Machine, layout: &Layout, n: usize) -> Turn
+pub fn execution_at(machine: &Machine, layout: &Layout, n: usize) -> Execution
     requires layout { IsLayout layout.now }
     requires few { length machine.now.entries.items ≤ 64 }
-    ensures { result ≡ turned_at layout.now.parts.now (shown machine.now) n }
+    ensures { result ≡ execution_at layout.now.parts.now (shown machine.now) n }
 {
     let Some(entry) = machine.entries.get(n) else {
-        return Turn::Plain;
+        return Execution::Plain;
     };
     match &entry.work {
         Work::Load {
@@ -48,7 +48,7 @@ pub fn turn_at(machine: &Machine, layout: &Layout, n: usize) -> Turn
         } => {
             let before = &machine.entries[..n];
             let address = visible_of(&machine.registers, before, *address);
-            turn_from(
+            execution_from(
                 layout,
                 &machine.space,
                 before,
@@ -67,12 +67,12 @@ pub fn turn_at(machine: &Machine, layout: &Layout, n: usize) -> Turn
         | Work::Store { .. }
         | Work::Ready { .. }
         | Work::Guard { .. }
-        | Work::Fail(_) => Turn::Plain,
+        | Work::Fail(_) => Execution::Plain,
     }
 }
 
 /// What a load behind those entries comes to, where its address is visible or isn't.
-fn turn_from(
+fn execution_from(
     layout: &Layout,
     space: &Bytes,
     before: &[Entry],
@@ -82,13 +82,13 @@ fn turn_from(
     to: Register,
     offset: u32,
     address: Option<u64>,
-) -> Turn
+) -> Execution
     requires layout { IsLayout layout.now }
     requires few { length before.now ≤ 64 }
-    ensures { result ≡ turned_from layout.now.parts.now space.now before.now protect kind.now memory to offset address }
+    ensures { result ≡ execution_from layout.now.parts.now space.now before.now protect kind.now memory to offset address }
 {
     let Some(address) = address else {
-        return Turn::Waits;
+        return Execution::Waits;
     };
     let from = effective(layout, memory, offset, address);
     match found_behind(layout, before, from, kind.width() as usize) {
@@ -98,7 +98,7 @@ fn turn_from(
                 address: from as u64,
                 guards: guards(before),
             };
-            Turn::Fills(valued(protect, to, value), Seen::Plain(observation))
+            Execution::Fills(valued(protect, to, value), Seen::Plain(observation))
         }
         Some(Found::Stored(number)) => {
             let value = kind.extend(number);
@@ -106,9 +106,9 @@ fn turn_from(
                 address: from as u64,
                 guards: guards(before),
             };
-            Turn::Fills(valued(protect, to, value), seen)
+            Execution::Fills(valued(protect, to, value), seen)
         }
-        Some(Found::Blocked) | None => Turn::Waits,
+        Some(Found::Blocked) | None => Execution::Waits,
     }
 }
 
@@ -143,10 +143,10 @@ impl Loads for Forward {
     }
 
     fn exec(machine: &mut Machine, layout: &Layout, n: usize) -> Result<Seen, StepError> {
-        match turn_at(machine, layout, n) {
-            Turn::Plain => as_plain(machine.exec(layout, n).ok_or(StepError::NotEnabled)),
-            Turn::Waits => Err(StepError::NotEnabled),
-            Turn::Fills(work, seen) => {
+        match execution_at(machine, layout, n) {
+            Execution::Plain => as_plain(machine.exec(layout, n).ok_or(StepError::NotEnabled)),
+            Execution::Waits => Err(StepError::NotEnabled),
+            Execution::Fills(work, seen) => {
                 machine.replace(n, work);
                 Ok(seen)
             }
@@ -154,10 +154,10 @@ impl Loads for Forward {
     }
 
     fn may_exec(machine: &Machine, layout: &Layout, n: usize) -> bool {
-        match turn_at(machine, layout, n) {
-            Turn::Plain => machine.may_exec(layout, n),
-            Turn::Waits => false,
-            Turn::Fills(_, _) => true,
+        match execution_at(machine, layout, n) {
+            Execution::Plain => machine.may_exec(layout, n),
+            Execution::Waits => false,
+            Execution::Fills(_, _) => true,
         }
     }
 

@@ -32,13 +32,13 @@ module _ (program : Program) (set typing : ℕ → Bool)
     (moves : (s x y : ℕ) → Reads program s x → Writes program s y → IsTrue (not (set s)) → IsTrue (typing x) → IsTrue (typing y))
     (sinks : (position x : ℕ) → SinkReads program position x → IsTrue (not (typing x))) where
   rest_met : (x : ℕ) (sites : List ℕ) (sink : ℕ) → IsTrue (typing x) → Carries program x sites sink → Protected set sites
-  rest_met x [] sink hot carries = absurd (never_both (typing x) hot (sinks sink x carries))
-  rest_met x (s ∷ rest) sink hot carries =
+  rest_met x [] sink transient carries = absurd (never_both (typing x) transient (sinks sink x carries))
+  rest_met x (s ∷ rest) sink transient carries =
       elim (cases_Bool (set s)) as (λ _. Protected set (s ∷ rest)) [
         | inl e ↦ any_here (λ t. IsTrue (set t)) s rest e
         | inr e ↦
             let y : ℕ = carries.1.0 in
-            any_later (λ t. IsTrue (set t)) s rest (rest_met y rest sink (moves s x y carries.0 carries.1.1 (not_from_false (set s) e) hot) carries.1.2)
+            any_later (λ t. IsTrue (set t)) s rest (rest_met y rest sink (moves s x y carries.0 carries.1.1 (not_from_false (set s) e) transient) carries.1.2)
       ]
 
   pub chain_met : (sites : List ℕ) (sink : ℕ) → IsChain program sites sink → Protected set sites

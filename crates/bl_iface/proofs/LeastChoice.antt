@@ -12,7 +12,7 @@ use Rattle.bl_iface.specs.InterfaceFunctions.{Matches}
 use Rattle.bl_iface.specs.Roles.{PassesAs}
 use Rattle.bl_iface.specs.RoleTests.{IsFirstGiven, IsGiven, LeastAs, asked}
 use Rattle.bl_iface.specs.declared.iface.Iface.{Iface}
-use Rattle.bl_iface.proofs.RoleTestLemmas.{as_from_under, asked_apart, hot_small, under_from_as}
+use Rattle.bl_iface.proofs.RoleTestLemmas.{as_from_under, asked_apart, transient_small, under_from_as}
 
 module _ (role : Role) (iface : Iface) (program : Program) where
   -- a set passes on that side of the interface, where it passes under what the role asks
@@ -50,8 +50,8 @@ module _ (role : Role) (iface : Iface) (program : Program) where
   pub some_choice : AreInRange program → IsWellFormed program → Matches program iface → ((position : ℕ) → IsGiven (asked role iface program) program position → ⊥)
       → (set : ℕ → Bool) × LeastUnder (asked role iface program) program set
   some_choice is rules matches none =
-      some_least (asked role iface program) program is (hot_small iface program rules.rule2 rules.rule3 matches role) (λ x hot barred.
+      some_least (asked role iface program) program is (transient_small iface program rules.rule2 rules.rule3 matches role) (λ x transient barred.
       elim barred as (λ _. ⊥) [
-        | inl sunk ↦ none sunk.0 (x, sunk.1, hot)
-        | inr firm ↦ asked_apart iface program rules.rule2 rules.rule3 matches role x hot firm
+        | inl sunk ↦ none sunk.0 (x, sunk.1, transient)
+        | inr stable ↦ asked_apart iface program rules.rule2 rules.rule3 matches role x transient stable
       ])

@@ -65,7 +65,7 @@ flows_from program typing set each = record {
   sinks = λ s x reads.
       let c = some_and (command_at program s) (λ k. Among (sunk_by k) x) reads in
       (each s c.0 c.1).sinks x c.2;
-  firm = λ x h. cc;
+  stable = λ x h. cc;
 }
 
 -- ---- renamed commands

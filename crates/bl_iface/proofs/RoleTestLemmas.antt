@@ -23,7 +23,7 @@ use Rattle.bl_iface.specs.JoinedProgram.{exported}
 use Rattle.bl_iface.specs.InterfaceFunctions.{Matches}
 use Rattle.bl_iface.specs.Roles.{FlowsAs}
 use Rattle.bl_transient.specs.Verdicts.{IsBad, load, sink, site}
-use Rattle.bl_transient.proofs.BarredUses.{firm_bad}
+use Rattle.bl_transient.proofs.BarredUses.{stable_bad}
 use Rattle.bl_transient.proofs.LeastTypings.{exact_flows, trans_least}
 use Rattle.bl_iface.specs.RoleTests.{asked, is_called, is_flow, params_called, results_called}
 use Rattle.bl_iface.specs.declared.iface.FnIface.{FnIface}
@@ -115,7 +115,7 @@ module _ (iface : Iface) (program : Program) (typing set : ℕ → Bool) where
       given = some_called program (λ one. one.params) (λ f. param program f 0) Transient iface.functions IsTransientVariable (λ k d lt f e i is. subst IsTransientVariable (param_at f i) ((h.sides k d lt f e).0 i is));
     };
     sinks = h.flows.sinks;
-    firm = some_called program (λ one. one.results) (λ f. result program f 0) Stable iface.functions Firm (λ k d lt f e i is. subst Firm (result_at f i) ((h.sides k d lt f e).1 i is));
+    stable = some_called program (λ one. one.results) (λ f. result program f 0) Stable iface.functions Firm (λ k d lt f e i is. subst Firm (result_at f i) ((h.sides k d lt f e).1 i is));
   }
   under_from_as Client h = record {
     assigns = record {
@@ -124,26 +124,26 @@ module _ (iface : Iface) (program : Program) (typing set : ℕ → Bool) where
       given = some_called program (λ one. one.results) (λ f. result program f 0) Transient iface.functions IsTransientVariable (λ k d lt f e i is. subst IsTransientVariable (result_at f i) ((h.sides k d lt f e).1 i is));
     };
     sinks = h.flows.sinks;
-    firm = some_called program (λ one. one.params) (λ f. param program f 0) Stable iface.functions Firm (λ k d lt f e i is. subst Firm (param_at f i) ((h.sides k d lt f e).0 i is));
+    stable = some_called program (λ one. one.params) (λ f. param program f 0) Stable iface.functions Firm (λ k d lt f e i is. subst Firm (param_at f i) ((h.sides k d lt f e).0 i is));
   }
 
   flows_of : (role : Role) → FlowsUnder (asked role iface program) program typing set → Flows program typing set
-  flows_of role h = record { assigns = record { loads = h.assigns.loads; moves = h.assigns.moves; given = λ x h. cc }; sinks = h.sinks; firm = λ x h. cc }
+  flows_of role h = record { assigns = record { loads = h.assigns.loads; moves = h.assigns.moves; given = λ x h. cc }; sinks = h.sinks; stable = λ x h. cc }
 
   pub as_from_under : (role : Role) → FlowsUnder (asked role iface program) program typing set → FlowsAs role iface program typing set
   as_from_under Library h =
-      let hot = each_called program (λ one. one.params) (λ f. param program f 0) Transient iface.functions IsTransientVariable h.assigns.given in
-      let firm = each_called program (λ one. one.results) (λ f. result program f 0) Stable iface.functions Firm h.firm in
+      let transient = each_called program (λ one. one.params) (λ f. param program f 0) Transient iface.functions IsTransientVariable h.assigns.given in
+      let stable = each_called program (λ one. one.results) (λ f. result program f 0) Stable iface.functions Firm h.stable in
       record {
         flows = flows_of Library h;
-        sides = λ k d lt f e. (λ i is. subst IsTransientVariable (sym (param_at f i)) (hot k d lt f e i is), λ i is. subst Firm (sym (result_at f i)) (firm k d lt f e i is));
+        sides = λ k d lt f e. (λ i is. subst IsTransientVariable (sym (param_at f i)) (transient k d lt f e i is), λ i is. subst Firm (sym (result_at f i)) (stable k d lt f e i is));
       }
   as_from_under Client h =
-      let hot = each_called program (λ one. one.results) (λ f. result program f 0) Transient iface.functions IsTransientVariable h.assigns.given in
-      let firm = each_called program (λ one. one.params) (λ f. param program f 0) Stable iface.functions Firm h.firm in
+      let transient = each_called program (λ one. one.results) (λ f. result program f 0) Transient iface.functions IsTransientVariable h.assigns.given in
+      let stable = each_called program (λ one. one.params) (λ f. param program f 0) Stable iface.functions Firm h.stable in
       record {
         flows = flows_of Client h;
-        sides = λ k d lt f e. (λ i is. subst Firm (sym (param_at f i)) (firm k d lt f e i is), λ i is. subst IsTransientVariable (sym (result_at f i)) (hot k d lt f e i is));
+        sides = λ k d lt f e. (λ i is. subst Firm (sym (param_at f i)) (stable k d lt f e i is), λ i is. subst IsTransientVariable (sym (result_at f i)) (transient k d lt f e i is));
       }
 
 -- ---- a set passes, or there is a position that tells why it doesn't
@@ -151,15 +151,15 @@ module _ (iface : Iface) (program : Program) (typing set : ℕ → Bool) where
 module _ (asks : Asked) (program : Program) (set : ℕ → Bool) where
   pub bad_fails : (typing : ℕ → Bool) (position : ℕ) → FlowsUnder asks program typing set → IsBad asks program set position → ⊥
   bad_fails typing position h (sink x reads t) = never_both (typing x) (trans_least asks program typing set x h.assigns t) (h.sinks position x reads)
-  bad_fails typing position h (load y is writes may firm) = never_both (typing y) (h.assigns.loads position y is writes may) (h.firm y firm)
-  bad_fails typing position h (site x y reads t writes may firm) =
-      never_both (typing y) (h.assigns.moves position x y reads writes may (trans_least asks program typing set x h.assigns t)) (h.firm y firm)
+  bad_fails typing position h (load y is writes may stable) = never_both (typing y) (h.assigns.loads position y is writes may) (h.stable y stable)
+  bad_fails typing position h (site x y reads t writes may stable) =
+      never_both (typing y) (h.assigns.moves position x y reads writes may (trans_least asks program typing set x h.assigns t)) (h.stable y stable)
 
   -- where nothing is asked to be both
-  pub none_passes : ((x : ℕ) → IsTrue (asks.hot x) → IsTrue (asks.firm x) → ⊥) → (typing : ℕ → Bool) → ((x : ℕ) → IsTrue (typing x) ↔ TransUnder asks program set x)
+  pub none_passes : ((x : ℕ) → IsTrue (asks.transient x) → IsTrue (asks.stable x) → ⊥) → (typing : ℕ → Bool) → ((x : ℕ) → IsTrue (typing x) ↔ TransUnder asks program set x)
       → ((position : ℕ) → IsBad asks program set position → ⊥) → FlowsUnder asks program typing set
   none_passes apart typing exact none =
-      exact_flows asks program set typing exact (λ position x reads t. none position (sink x reads t)) (λ x firm t. let bad = firm_bad asks program set apart x firm t in none bad.0 bad.1)
+      exact_flows asks program set typing exact (λ position x reads t. none position (sink x reads t)) (λ x stable t. let bad = stable_bad asks program set apart x stable t in none bad.0 bad.1)
 
 -- ---- parameters are no results
 
@@ -204,9 +204,9 @@ module _ (iface : Iface) (program : Program) (rule2 : Rule2 program) (rule3 : Ru
       let lt = p.3 in let is = p.4 in
       omega arith
 
-  pub asked_apart : (role : Role) (x : ℕ) → IsTrue ((asked role iface program).hot x) → IsTrue ((asked role iface program).firm x) → ⊥
-  asked_apart Library x hot firm = no_both x (param_is Transient x hot) (result_is Stable x firm)
-  asked_apart Client x hot firm = no_both x (param_is Stable x firm) (result_is Transient x hot)
+  pub asked_apart : (role : Role) (x : ℕ) → IsTrue ((asked role iface program).transient x) → IsTrue ((asked role iface program).stable x) → ⊥
+  asked_apart Library x transient stable = no_both x (param_is Transient x transient) (result_is Stable x stable)
+  asked_apart Client x transient stable = no_both x (param_is Stable x stable) (result_is Transient x transient)
 
   -- both are variables of the program
   param_small : (x : ℕ) → IsParam x → x < first_of program (length program.functions)
@@ -215,10 +215,10 @@ module _ (iface : Iface) (program : Program) (rule2 : Rule2 program) (rule3 : Ru
   result_small : (x : ℕ) → IsSomeResult x → x < first_of program (length program.functions)
   result_small x h = own_small program rule2 h.0 x (result_in x h)
 
-  pub hot_small : (role : Role) (x : ℕ) → IsTrue ((asked role iface program).hot x) → x < first_of program (length program.functions)
-  hot_small Library x hot = param_small x (param_is Transient x hot)
-  hot_small Client x hot = result_small x (result_is Transient x hot)
+  pub transient_small : (role : Role) (x : ℕ) → IsTrue ((asked role iface program).transient x) → x < first_of program (length program.functions)
+  transient_small Library x transient = param_small x (param_is Transient x transient)
+  transient_small Client x transient = result_small x (result_is Transient x transient)
 
-  pub firm_small : (role : Role) (x : ℕ) → IsTrue ((asked role iface program).firm x) → x < first_of program (length program.functions)
-  firm_small Library x firm = result_small x (result_is Stable x firm)
-  firm_small Client x firm = param_small x (param_is Stable x firm)
+  pub stable_small : (role : Role) (x : ℕ) → IsTrue ((asked role iface program).stable x) → x < first_of program (length program.functions)
+  stable_small Library x stable = result_small x (result_is Stable x stable)
+  stable_small Client x stable = param_small x (param_is Stable x stable)

@@ -16,31 +16,31 @@ use Rattle.bl_iface.specs.InterfaceFunctions.{Matches}
 use Rattle.bl_iface.specs.Roles.{PassesAs}
 use Rattle.bl_iface.specs.RoleTests.{asked}
 use Rattle.bl_iface.specs.declared.iface.Iface.{Iface}
-use Rattle.bl_iface.proofs.RoleTestLemmas.{as_from_under, asked_apart, bad_fails, firm_small, hot_small, under_from_as}
+use Rattle.bl_iface.proofs.RoleTestLemmas.{as_from_under, asked_apart, bad_fails, stable_small, transient_small, under_from_as}
 
 -- what asks for the same is the same
-alike : (one other : Asked) → ((x : ℕ) → one.hot x ≡ other.hot x) → ((x : ℕ) → one.firm x ≡ other.firm x) → one ≡ other
-alike one other hot firm =
-    ap (λ (test : ℕ → Bool). record { hot = test; firm = one.firm }) (fun_ext hot)
-    ∙ ap (λ (test : ℕ → Bool). record { hot = other.hot; firm = test }) (fun_ext firm)
+alike : (one other : Asked) → ((x : ℕ) → one.transient x ≡ other.transient x) → ((x : ℕ) → one.stable x ≡ other.stable x) → one ≡ other
+alike one other transient stable =
+    ap (λ (test : ℕ → Bool). record { transient = test; stable = one.stable }) (fun_ext transient)
+    ∙ ap (λ (test : ℕ → Bool). record { transient = other.transient; stable = test }) (fun_ext stable)
 
 module _ (role : Role) (iface : Iface) (program : Program) (lists : AskedOf) (are : AreAsked role iface program lists) where
   pub same_asked : asked_of lists ≡ asked role iface program
-  same_asked = alike (asked_of lists) (asked role iface program) are.hot are.firm
+  same_asked = alike (asked_of lists) (asked role iface program) are.transient are.stable
 
   -- what the searches need of the lists
   module _ (rules : IsWellFormed program) (matches : Matches program iface) where
-    pub hot_within : All (λ x. x < variables program) lists.hot
-    hot_within = all_from (λ x. x < variables program) lists.hot (λ x h.
-        hot_small iface program rules.rule2 rules.rule3 matches role x (sym (are.hot x) ∙ in_asked lists.hot x h))
+    pub transient_within : All (λ x. x < variables program) lists.transient
+    transient_within = all_from (λ x. x < variables program) lists.transient (λ x h.
+        transient_small iface program rules.rule2 rules.rule3 matches role x (sym (are.transient x) ∙ in_asked lists.transient x h))
 
-    pub firm_within : All (λ x. x < variables program) lists.firm
-    firm_within = all_from (λ x. x < variables program) lists.firm (λ x h.
-        firm_small iface program rules.rule2 rules.rule3 matches role x (sym (are.firm x) ∙ in_asked lists.firm x h))
+    pub stable_within : All (λ x. x < variables program) lists.stable
+    stable_within = all_from (λ x. x < variables program) lists.stable (λ x h.
+        stable_small iface program rules.rule2 rules.rule3 matches role x (sym (are.stable x) ∙ in_asked lists.stable x h))
 
-    pub lists_apart : (x : ℕ) → Contains lists.hot x → Contains lists.firm x → ⊥
-    lists_apart x hot firm =
-        asked_apart iface program rules.rule2 rules.rule3 matches role x (sym (are.hot x) ∙ in_asked lists.hot x hot) (sym (are.firm x) ∙ in_asked lists.firm x firm)
+    pub lists_apart : (x : ℕ) → Contains lists.transient x → Contains lists.stable x → ⊥
+    lists_apart x transient stable =
+        asked_apart iface program rules.rule2 rules.rule3 matches role x (sym (are.transient x) ∙ in_asked lists.transient x transient) (sym (are.stable x) ∙ in_asked lists.stable x stable)
 
   -- ---- the verdict on the program's own marks
 

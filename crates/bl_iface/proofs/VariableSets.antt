@@ -59,14 +59,14 @@ module _ (test : ℕ → Bool) (uses : List Use) where
       ]
 
   not_at : (j position x : ℕ) → slice_index_or uses j (use_of position x) ≡ use_of position x → test (slice_index_or uses j (use_of position x)).var.0 ≡ false → IsTrue (test x) → ⊥
-  not_at j position x is cold hot = false≢true (sym cold ∙ ap (λ (u : Use). test u.var.0) is ∙ hot)
+  not_at j position x is cold transient = false≢true (sym cold ∙ ap (λ (u : Use). test u.var.0) is ∙ transient)
 
   pub first_use : (k : ℕ) → k < length uses → AllPairs Precedes uses → NoneBefore k → (u : Use) → ((d : Use) → slice_index_or uses k d ≡ u) → IsTrue (test u.var.0)
       → IsFirstUse test uses u.at.0
-  first_use k lt rise before u is hot = record {
+  first_use k lt rise before u is transient = record {
     var = u.var.0;
     stands = (k, lt, is (use_of u.at.0 u.var.0));
-    passes = hot;
+    passes = transient;
     least = λ other x h passes.
         elim (cases_lt h.0 k) as (λ _. u.at.0 ≤ other) [
           | inl less ↦ absurd (not_at h.0 other x h.2 (before h.0 (use_of other x) less) passes)
@@ -89,7 +89,7 @@ module _ (test : ℕ → Bool) (uses : List Use) where
 
 -- the first use by a sink is the first such sink
 pub first_given : (lists : AskedOf) (program : Program) (g : Graph) (test : ℕ → Bool) (found : Option Pos) → IsGraph program g
-    → ((x : ℕ) → test x ≡ list_any (nat_eq x) lists.hot) → MatchOption found (NoUse test g.sinks) (λ position. IsFirstUse test g.sinks position.0)
+    → ((x : ℕ) → test x ≡ list_any (nat_eq x) lists.transient) → MatchOption found (NoUse test g.sinks) (λ position. IsFirstUse test g.sinks position.0)
     → MatchOption found ((position : ℕ) → IsGiven (asked_of lists) program position → ⊥) (λ position. IsFirstGiven (asked_of lists) program position.0)
 first_given lists program g test None is exact none = λ position h. none position h.0 ((is.sinks.each position h.0).1 h.1) (exact h.0 ∙ h.2)
 first_given lists program g test (Some place) is exact first = record {

@@ -16,8 +16,8 @@ Lists test variables = (x : ℕ) → list_any (nat_eq x) variables ≡ test x
 
 -- lists have exactly what a role asks
 pub record AreAsked (role : Role) (iface : Iface) (program : Program) (lists : AskedOf) : Type 0 where
-  pub hot : Lists (asked role iface program).hot lists.hot
-  pub firm : Lists (asked role iface program).firm lists.firm
+  pub transient : Lists (asked role iface program).transient lists.transient
+  pub stable : Lists (asked role iface program).stable lists.stable
 
 -- the variable, where it is called so
 abbrev pub kept_if : Bool → ℕ → List ℕ

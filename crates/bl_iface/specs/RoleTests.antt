@@ -40,14 +40,14 @@ results_called flow iface program x =
     list_any (λ one. unwrap_or (option_map (λ f. is_called flow one.results (result program f 0) x) (exported program.exports one.name)) false) iface.functions
 
 abbrev pub asked : Role → Iface → Program → Asked
-asked Library iface program = record { hot = params_called Transient iface program; firm = results_called Stable iface program }
-asked Client iface program = record { hot = results_called Transient iface program; firm = params_called Stable iface program }
+asked Library iface program = record { transient = params_called Transient iface program; stable = results_called Stable iface program }
+asked Client iface program = record { transient = results_called Transient iface program; stable = params_called Stable iface program }
 
 -- ---- the least choice
 
 -- a sink there reads directly what is asked to be transient
 abbrev pub IsGiven : Asked → Program → ℕ → Type 0
-IsGiven asked program position = (x : ℕ) × SinkReads program position x × IsTrue (asked.hot x)
+IsGiven asked program position = (x : ℕ) × SinkReads program position x × IsTrue (asked.transient x)
 
 -- the least such position
 pub record IsFirstGiven (asked : Asked) (program : Program) (position : ℕ) : Type 0 where

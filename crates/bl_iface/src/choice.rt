@@ -93,7 +93,7 @@ fn first_given(
     ensures { IfOk result (λ found. MatchOption found ((position : ℕ) → IsGiven (asked_of asked.now) program.now position → ⊥)
         (λ position. IsFirstGiven (asked_of asked.now) program.now position.0)) }
 {
-    let given = set_of(alloc, asked.hot.as_slice())?;
+    let given = set_of(alloc, asked.transient.as_slice())?;
     Ok(first_of(&given, graph.sinks.as_slice()))
 }
 

@@ -27,9 +27,9 @@ pub(crate) fn asked_of(
 ) -> Result<AskedOf, NoMemory>
     requires { Matches program.now iface.now }
     ensures asked { IfOk result (AreAsked role iface.now program.now) }
-    ensures hot { IfOk result (λ asked. All (λ x. x < variables program.now) asked.hot) }
-    ensures firm { IfOk result (λ asked. All (λ x. x < variables program.now) asked.firm) }
-    ensures apart { IfOk result (λ asked. (x : ℕ) → Contains asked.hot x → Contains asked.firm x → ⊥) }
+    ensures transient { IfOk result (λ asked. All (λ x. x < variables program.now) asked.transient) }
+    ensures stable { IfOk result (λ asked. All (λ x. x < variables program.now) asked.stable) }
+    ensures apart { IfOk result (λ asked. (x : ℕ) → Contains asked.transient x → Contains asked.stable x → ⊥) }
 {
     let parts = program.program().parts();
     let targets = matched(alloc, program, iface)?;
@@ -61,14 +61,14 @@ fn asked_at(
 {
     match role {
         Role::Client => {
-            let hot = results_called(alloc, Flow::Transient, parts, iface, firsts, targets)?;
-            let firm = params_called(alloc, Flow::Stable, parts, iface, firsts, targets)?;
-            Ok(AskedOf { hot, firm })
+            let transient = results_called(alloc, Flow::Transient, parts, iface, firsts, targets)?;
+            let stable = params_called(alloc, Flow::Stable, parts, iface, firsts, targets)?;
+            Ok(AskedOf { transient, stable })
         }
         Role::Library => {
-            let hot = params_called(alloc, Flow::Transient, parts, iface, firsts, targets)?;
-            let firm = results_called(alloc, Flow::Stable, parts, iface, firsts, targets)?;
-            Ok(AskedOf { hot, firm })
+            let transient = params_called(alloc, Flow::Transient, parts, iface, firsts, targets)?;
+            let stable = results_called(alloc, Flow::Stable, parts, iface, firsts, targets)?;
+            Ok(AskedOf { transient, stable })
         }
     }
 }

@@ -23,7 +23,7 @@ use Rattle.bl_rob.specs.declared.directive.Directive.{Directive}
 use Rattle.bl_rob.specs.declared.directive.Directive.TheVariants.{Fetch, Predict, Exec, Retire}
 use Rattle.bl_rob.specs.declared.directive.Observation.TheVariants as seen
 use Rattle.bl_rob.specs.declared.directive.Observation.{Observation}
-use Rattle.bl_rob.specs.declared.entry.Act.TheVariants.{Becomes, Turns}
+use Rattle.bl_rob.specs.declared.entry.Act.TheVariants.{Becomes, RollsBack}
 use Rattle.bl_rob.specs.declared.entry.Entry.{Entry}
 use Rattle.bl_rob.specs.declared.entry.Source.{Source}
 use Rattle.bl_rob.specs.declared.entry.Source.TheVariants.{Const, Holds as Reads}
@@ -101,7 +101,7 @@ data Moves (Q : Program) (s : State) (p : ℕ) (es : List Entry) (e : Work) : Ty
   executes : is_some (acted 0 s (entry_at p e) (act Q s.registers s.space [] e)) ≡ true → Moves Q s p es e
   retires : is_some (retire_work Q s es e) ≡ true → Moves Q s p es e
 
-judged_moves : (s : State) (x : Entry) (b : Bool) → is_some (acted 0 s x (if b then Becomes Nop seen.Nothing else Turns)) ≡ true
+judged_moves : (s : State) (x : Entry) (b : Bool) → is_some (acted 0 s x (if b then Becomes Nop seen.Nothing else RollsBack)) ≡ true
 judged_moves s x true = refl
 judged_moves s x false = refl
 

@@ -6,7 +6,7 @@ use Rattle.bl_ops.specs.declared.access.AccessKind.{AccessKind}
 use Rattle.bl_ops.specs.declared.op.Op.{Op}
 use Rattle.bl_cmd.specs.Steps.{Registers}
 use Rattle.bl_cmd.specs.declared.definitions.ProgramParts.{ProgramParts as Program}
-use Rattle.bl_rob.specs.Machines.{State, Fetched, Straight, Branch, Nowhere, at_position, ended_at, before, grown, fetch, guess, predict, turned, acted, exec_entry, retire_work, retire, has_room, has_guard, has_store, guards as mask_of, valued, assigns, loads, stores, frees, judges, agree, truth, act, directive_step}
+use Rattle.bl_rob.specs.Machines.{State, Fetched, Straight, Branch, Nowhere, at_position, ended_at, before, grown, fetch, guess, predict, rolled_back, acted, exec_entry, retire_work, retire, has_room, has_guard, has_store, guards as mask_of, valued, assigns, loads, stores, frees, judges, agree, truth, act, directive_step}
 use Rattle.bl_rob.specs.Observations.{go_on, after, Observed, see, observed_from}
 use Rattle.bl_rob.specs.declared.directive.Directive.{Directive}
 use Rattle.bl_rob.specs.declared.directive.Directive.TheVariants.{Fetch, Predict, Exec, Retire}
@@ -14,7 +14,7 @@ use Rattle.bl_rob.specs.declared.directive.End.TheVariants as ending
 use Rattle.bl_rob.specs.declared.directive.Observation.{Observation}
 use Rattle.bl_rob.specs.declared.directive.Observation.TheVariants as seen
 use Rattle.bl_rob.specs.declared.entry.Act.{Act}
-use Rattle.bl_rob.specs.declared.entry.Act.TheVariants.{Idle, Becomes, Turns}
+use Rattle.bl_rob.specs.declared.entry.Act.TheVariants.{Idle, Becomes, RollsBack}
 use Rattle.bl_rob.specs.declared.entry.Entry.{Entry}
 use Rattle.bl_rob.specs.declared.entry.Register.{Register}
 use Rattle.bl_rob.specs.declared.entry.Work.{Work}
@@ -111,7 +111,7 @@ IsQuiet o = Unit {0}
 abbrev Fits : Work → Act → Type 0
 Fits e Idle = Unit {0}
 Fits e (Becomes w o) = IsOther w × IsQuiet o
-Fits e Turns = IsGuard e
+Fits e RollsBack = IsGuard e
 
 valued_other : (protect : Bool) (to : Register) (v : ℕ) → IsOther (valued protect to v)
 valued_other true to v = tt
@@ -142,7 +142,7 @@ frees_fit : (e : Work) (b : Bool) (to : Register) (v : ℕ) → Fits e (frees b 
 frees_fit e true to v = tt
 frees_fit e false to v = (tt, tt)
 
-judged_fit : (e : Work) → IsGuard e → (b : Bool) → Fits e (if b then Becomes Nop seen.Nothing else Turns)
+judged_fit : (e : Work) → IsGuard e → (b : Bool) → Fits e (if b then Becomes Nop seen.Nothing else RollsBack)
 judged_fit e g true = (tt, tt)
 judged_fit e g false = g
 
@@ -165,11 +165,11 @@ no_guard : (e : Work) → IsOther e → IsGuard e → ⊥
 no_guard (Guard cond predicted other chain) i g = i
 no_guard e i g = g
 
-turned_both : (n p : ℕ) (e f : Work) (s t : State) → IsGuard e → SameGuess e f → Outline s t → Outline (turned n p e s) (turned n p f t)
-turned_both n p e f s t g (guards cond predicted other chain) r =
+rolled_back_both : (n p : ℕ) (e f : Work) (s t : State) → IsGuard e → SameGuess e f → Outline s t → Outline (rolled_back n p e s) (rolled_back n p f t)
+rolled_back_both n p e f s t g (guards cond predicted other chain) r =
     record { entries = same_append _ _ _ _ (same_take n s.buffer t.buffer r.entries) (more p Nop Nop [] [] (same_self Nop) none); front = refl }
-turned_both n p e f s t g (fails kind) r = absurd g
-turned_both n p e f s t g (others a b i j) r = absurd (no_guard a i g)
+rolled_back_both n p e f s t g (fails kind) r = absurd g
+rolled_back_both n p e f s t g (others a b i j) r = absurd (no_guard a i g)
 
 loud : (o : Observation) (n : ℕ) → IsQuiet o → o ≡ seen.Rollback n → ⊥
 loud o n q e = subst IsQuiet e q
@@ -178,15 +178,15 @@ acted_both : (n p : ℕ) (e f : Work) (s t : State) (a b : Act) → Fits e a →
     → Both Outline (acted n s (entry_at p e) a) (acted n t (entry_at p f) b)
 acted_both n p e f s t Idle b h k g r = tt
 acted_both n p e f s t (Becomes x o) Idle h k g r = tt
-acted_both n p e f s t Turns Idle h k g r = tt
+acted_both n p e f s t RollsBack Idle h k g r = tt
 acted_both n p e f s t (Becomes x o) (Becomes y q) h k g r = λ _. record {
   entries = same_append _ _ _ _ (same_take n s.buffer t.buffer r.entries)
       (more p x y _ _ (others x y h.0 k.0) (same_drop (suc n) s.buffer t.buffer r.entries));
   front = r.front;
 }
-acted_both n p e f s t Turns Turns h k g r = λ _. turned_both n p e f s t h g r
-acted_both n p e f s t (Becomes x o) Turns h k g r = λ is. absurd (loud o n h.1 is)
-acted_both n p e f s t Turns (Becomes y q) h k g r = λ is. absurd (loud q n k.1 (sym is))
+acted_both n p e f s t RollsBack RollsBack h k g r = λ _. rolled_back_both n p e f s t h g r
+acted_both n p e f s t (Becomes x o) RollsBack h k g r = λ is. absurd (loud o n h.1 is)
+acted_both n p e f s t RollsBack (Becomes y q) h k g r = λ is. absurd (loud q n k.1 (sym is))
 
 exec_both : (Q : Program) (n : ℕ) (s t : State) (o p : Option Entry) → SameGet o p → Outline s t → Both Outline (exec_entry Q n s o) (exec_entry Q n t p)
 exec_both Q n s t o p no_entry r = tt

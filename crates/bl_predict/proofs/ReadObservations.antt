@@ -12,7 +12,7 @@ use Rattle.bl_rob.specs.declared.directive.Kind.{Kind}
 use Rattle.bl_rob.specs.declared.directive.Kind.TheVariants as kind
 use Rattle.bl_rob.specs.declared.directive.Observation.TheVariants as seen
 use Rattle.bl_rob.specs.declared.entry.Act.{Act}
-use Rattle.bl_rob.specs.declared.entry.Act.TheVariants.{Becomes, Turns}
+use Rattle.bl_rob.specs.declared.entry.Act.TheVariants.{Becomes, RollsBack}
 use Rattle.bl_rob.specs.declared.entry.Entry.{Entry}
 use Rattle.bl_rob.specs.declared.entry.Work.{Work}
 use Rattle.bl_rob.specs.declared.entry.Work.TheVariants.{Nop, Assign, Load, Held, Done, Store, Ready, Guard, Fail}
@@ -50,7 +50,7 @@ module _ (n : ℕ) (s : State) (x : Entry) where
   frees_mute true to v = refl
   frees_mute false to v = refl
 
-  judged_mute : (b : Bool) → Mute (if b then Becomes Nop seen.Nothing else Turns)
+  judged_mute : (b : Bool) → Mute (if b then Becomes Nop seen.Nothing else RollsBack)
   judged_mute true = refl
   judged_mute false = refl
 

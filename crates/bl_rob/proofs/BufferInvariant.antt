@@ -13,7 +13,7 @@ use Rattle.bl_cmd.specs.Steps.{Registers, Plain, plain_step}
 use Rattle.bl_cmd.specs.declared.command.Command.{Command}
 use Rattle.bl_cmd.specs.declared.command.Command.TheVariants as command
 use Rattle.bl_cmd.specs.declared.definitions.ProgramParts.{ProgramParts as Program}
-use Rattle.bl_rob.specs.Machines.{State, at_position, ended_at, opening, end_of, end_in, Fetched, Straight, Branch, Nowhere, fetched, fetched_from, before, grown, fetch, predict, act, turned, acted, exec_entry, truth, agree, retire_work, retire, has_room, directive_step, outcome_by}
+use Rattle.bl_rob.specs.Machines.{State, at_position, ended_at, opening, end_of, end_in, Fetched, Straight, Branch, Nowhere, fetched, fetched_from, before, grown, fetch, predict, act, rolled_back, acted, exec_entry, truth, agree, retire_work, retire, has_room, directive_step, outcome_by}
 use Rattle.bl_rob.specs.Observations.{Rules, go_on, after_by, reached, IsConsistentBy, IsConsistent}
 use Rattle.bl_rob.specs.declared.directive.Directive.{Directive}
 use Rattle.bl_rob.specs.declared.directive.Directive.TheVariants.{Fetch, Predict, Exec, Retire}
@@ -21,7 +21,7 @@ use Rattle.bl_rob.specs.declared.directive.End.{End}
 use Rattle.bl_rob.specs.declared.directive.End.TheVariants as ending
 use Rattle.bl_rob.specs.declared.directive.Observation.{Observation}
 use Rattle.bl_rob.specs.declared.entry.Act.{Act}
-use Rattle.bl_rob.specs.declared.entry.Act.TheVariants.{Idle, Becomes, Turns}
+use Rattle.bl_rob.specs.declared.entry.Act.TheVariants.{Idle, Becomes, RollsBack}
 use Rattle.bl_rob.specs.declared.entry.Entry.{Entry}
 use Rattle.bl_rob.specs.declared.entry.Work.{Work}
 use Rattle.bl_rob.specs.declared.entry.Work.TheVariants.{Nop, Assign, Load, Held, Done, Store, Ready, Guard, Fail}
@@ -53,18 +53,18 @@ abbrev pub Stays : Program → Config → ℕ → State → Type 0
 Stays Q c n t = (t.retired ≡ n) × Inv Q c t
 
 module _ (Q : Program) (c : Config) (s : State) (i : Inv Q c s) where
-  turned_ok : (n p : ℕ) (pre post : List Entry) (work : Work) → pre ≡ take n s.buffer → Tracks Q (pre ++ entry_at p work ∷ post) c s.front
+  rolled_back_ok : (n p : ℕ) (pre post : List Entry) (work : Work) → pre ≡ take n s.buffer → Tracks Q (pre ++ entry_at p work ∷ post) c s.front
       → ((d : Config) → Along Q pre (committed s.registers) c d → Tracks Q (entry_at p work ∷ post) d s.front
       → GoesBack Q d work)
-      → Stays Q c s.retired (turned n p work s)
-  turned_ok n p pre post Nop e t k = (refl, i)
-  turned_ok n p pre post (Assign protect op to a b z) e t k = (refl, i)
-  turned_ok n p pre post (Load protect kind memory to offset address) e t k = (refl, i)
-  turned_ok n p pre post (Held to value) e t k = (refl, i)
-  turned_ok n p pre post (Done to value) e t k = (refl, i)
-  turned_ok n p pre post (Store kind memory offset address value) e t k = (refl, i)
-  turned_ok n p pre post (Ready kind memory offset address value) e t k = (refl, i)
-  turned_ok n p pre post (Guard cond predicted other chain) e t k = (
+      → Stays Q c s.retired (rolled_back n p work s)
+  rolled_back_ok n p pre post Nop e t k = (refl, i)
+  rolled_back_ok n p pre post (Assign protect op to a b z) e t k = (refl, i)
+  rolled_back_ok n p pre post (Load protect kind memory to offset address) e t k = (refl, i)
+  rolled_back_ok n p pre post (Held to value) e t k = (refl, i)
+  rolled_back_ok n p pre post (Done to value) e t k = (refl, i)
+  rolled_back_ok n p pre post (Store kind memory offset address value) e t k = (refl, i)
+  rolled_back_ok n p pre post (Ready kind memory offset address value) e t k = (refl, i)
+  rolled_back_ok n p pre post (Guard cond predicted other chain) e t k = (
     refl,
     record {
       registers = i.registers;
@@ -74,7 +74,7 @@ module _ (Q : Program) (c : Config) (s : State) (i : Inv Q c s) where
           (below_registers s.registers c i.registers) t (λ d a v. k d a v p));
     },
   )
-  turned_ok n p pre post (Fail kind) e t k = (refl, i)
+  rolled_back_ok n p pre post (Fail kind) e t k = (refl, i)
 
   pub acted_ok : (n : ℕ) (pre post : List Entry) (e : Entry) (a : Act) → pre ≡ take n s.buffer → post ≡ drop (suc n) s.buffer
       → Tracks Q (pre ++ e ∷ post) c s.front
@@ -93,7 +93,7 @@ module _ (Q : Program) (c : Config) (s : State) (i : Inv Q c s) where
           (below_registers s.registers c i.registers) t (λ d a v. k d a v e.position)));
     },
   )
-  acted_ok n pre post e Turns ep eq t k = turned_ok n e.position pre post e.work ep t k
+  acted_ok n pre post e RollsBack ep eq t k = rolled_back_ok n e.position pre post e.work ep t k
 
   exec_ok : (n : ℕ) (o : Option Entry) → slice_get s.buffer n ≡ o → Holds (Stays Q c s.retired) (exec_entry Q n s o)
   exec_ok n None h = tt

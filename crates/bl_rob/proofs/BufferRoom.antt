@@ -6,14 +6,14 @@ use Rattle.std.proofs.lemmas.Bool.{ltb-true}
 use Rattle.std.proofs.lemmas.List.{length-append}
 use Rattle.bl_cmd.specs.declared.definitions.ProgramParts.{ProgramParts as Program}
 use Rattle.bl_rob.specs.CallResults.{ComesBy, Steps, Executes}
-use Rattle.bl_rob.specs.Machines.{State, Fetched, Straight, Branch, Nowhere, before, fetch, guess, predict, act, turned, acted, exec_entry, retire_work, retire, has_room, directive_step}
+use Rattle.bl_rob.specs.Machines.{State, Fetched, Straight, Branch, Nowhere, before, fetch, guess, predict, act, rolled_back, acted, exec_entry, retire_work, retire, has_room, directive_step}
 use Rattle.bl_rob.specs.declared.directive.Directive.{Directive}
 use Rattle.bl_rob.specs.declared.directive.Directive.TheVariants.{Fetch, Predict, Exec, Retire}
 use Rattle.bl_rob.specs.declared.directive.Observation.{Observation}
 use Rattle.bl_rob.specs.declared.directive.StepError.{StepError}
 use Rattle.bl_rob.specs.declared.directive.StepError.TheVariants.{NotEnabled, Memory}
 use Rattle.bl_rob.specs.declared.entry.Act.{Act}
-use Rattle.bl_rob.specs.declared.entry.Act.TheVariants.{Idle, Becomes, Turns}
+use Rattle.bl_rob.specs.declared.entry.Act.TheVariants.{Idle, Becomes, RollsBack}
 use Rattle.bl_rob.specs.declared.entry.Entry.{Entry}
 use Rattle.bl_rob.specs.declared.entry.Source.{Source}
 use Rattle.bl_rob.specs.declared.entry.Work.{Work}
@@ -61,23 +61,23 @@ module _ (most : ℕ) where
   cut_off (x ∷ entries) zero entry lt = omega arith
   cut_off (x ∷ entries) (suc n) entry lt = let le = cut_off entries n entry (omega arith) in omega arith
 
-  turned_fits : (s : State) (n position : ℕ) (work : Work) → n < length s.buffer → Fits s → Fits (turned n position work s)
-  turned_fits s n position Nop lt fits = fits
-  turned_fits s n position (Assign protect op to a b c) lt fits = fits
-  turned_fits s n position (Load protect kind memory to offset address) lt fits = fits
-  turned_fits s n position (Held to value) lt fits = fits
-  turned_fits s n position (Done to value) lt fits = fits
-  turned_fits s n position (Store kind memory offset address value) lt fits = fits
-  turned_fits s n position (Ready kind memory offset address value) lt fits = fits
-  turned_fits s n position (Guard cond predicted other chain) lt fits =
+  rolled_back_fits : (s : State) (n position : ℕ) (work : Work) → n < length s.buffer → Fits s → Fits (rolled_back n position work s)
+  rolled_back_fits s n position Nop lt fits = fits
+  rolled_back_fits s n position (Assign protect op to a b c) lt fits = fits
+  rolled_back_fits s n position (Load protect kind memory to offset address) lt fits = fits
+  rolled_back_fits s n position (Held to value) lt fits = fits
+  rolled_back_fits s n position (Done to value) lt fits = fits
+  rolled_back_fits s n position (Store kind memory offset address value) lt fits = fits
+  rolled_back_fits s n position (Ready kind memory offset address value) lt fits = fits
+  rolled_back_fits s n position (Guard cond predicted other chain) lt fits =
       let le = cut_off s.buffer n (record { position = position; work = Nop }) lt in omega arith
-  turned_fits s n position (Fail kind) lt fits = fits
+  rolled_back_fits s n position (Fail kind) lt fits = fits
 
   pub acted_fits : (s : State) (n : ℕ) (entry : Entry) (a : Act) → n < length s.buffer → Fits s → Holds Fits (acted n s entry a)
   acted_fits s n entry Idle lt fits = tt
   acted_fits s n entry (Becomes work observation) lt fits =
       let same = replaced s.buffer n (record { position = entry.position; work = work }) lt in omega arith
-  acted_fits s n entry Turns lt fits = turned_fits s n entry.position entry.work lt fits
+  acted_fits s n entry RollsBack lt fits = rolled_back_fits s n entry.position entry.work lt fits
 
   exec_fits : (program : Program) (s : State) (n : ℕ) (o : Option Entry) → slice_get s.buffer n ≡ o → Fits s → Holds Fits (exec_entry program n s o)
   exec_fits program s n None h fits = tt

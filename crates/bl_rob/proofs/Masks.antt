@@ -42,7 +42,7 @@ one_more entries left mask new entry guard m some is which e =
     let small = m.small in
     let b = bit guard in
     record {
-      value = e ∙ ap (λ k. 2 * k + (if guard then 1 else 0)) m.value ∙ turned _ _
+      value = e ∙ ap (λ k. 2 * k + (if guard then 1 else 0)) m.value ∙ rolled_back _ _
           ∙ ap (λ g. (if g then 1 else 0) + 2 * guards (drop left entries)) which
           ∙ ap (λ (x : Entry). (if is_guard x.work then 1 else 0) + 2 * guards (drop left entries)) (sym is) ∙ ap guards (sym split);
       small = omega arith;
@@ -52,8 +52,8 @@ one_more entries left mask new entry guard m some is which e =
     double : (k : ℕ) → 2 ^ suc k ≡ 2 * 2 ^ k
     double k = pow-succ' 2 k
 
-    turned : (a b : ℕ) → 2 * a + b ≡ b + 2 * a
-    turned a b = omega arith
+    rolled_back : (a b : ℕ) → 2 * a + b ≡ b + 2 * a
+    rolled_back a b = omega arith
 
 pub whole : (entries : List Entry) (left mask : ℕ) → left ≡ 0 → IsMask entries left mask → mask ≡ guards entries
 whole entries left mask none m = m.value ∙ ap (λ k. guards (drop k entries)) none

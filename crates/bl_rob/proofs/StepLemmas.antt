@@ -13,15 +13,15 @@ use Rattle.bl_cmd.specs.declared.command.Command.{Command}
 use Rattle.bl_cmd.specs.declared.command.Command.TheVariants as command
 use Rattle.bl_cmd.specs.declared.command.Operand.{Operand}
 use Rattle.bl_cmd.specs.declared.definitions.ProgramParts.{ProgramParts as Program}
-use Rattle.bl_rob.specs.CallResults.{ComesBy, Steps, act_by, command_from, next_command, turned_at}
-use Rattle.bl_rob.specs.Machines.{State, at_position, fetched, fetched_from, grown, fetch, source_of, guess, predict, has_room, directive_step, is_guard, assigns, loads, stores, frees, act, become, turned, acted, exec_entry}
+use Rattle.bl_rob.specs.CallResults.{ComesBy, Steps, act_by, command_from, next_command, rolled_back_at}
+use Rattle.bl_rob.specs.Machines.{State, at_position, fetched, fetched_from, grown, fetch, source_of, guess, predict, has_room, directive_step, is_guard, assigns, loads, stores, frees, act, become, rolled_back, acted, exec_entry}
 use Rattle.bl_rob.specs.declared.directive.Directive.TheVariants.{Predict}
 use Rattle.bl_rob.specs.declared.directive.End.{End}
 use Rattle.bl_rob.specs.declared.directive.Observation.{Observation}
 use Rattle.bl_rob.specs.declared.directive.Observation.TheVariants as seen
 use Rattle.bl_rob.specs.declared.directive.StepError.{StepError}
 use Rattle.bl_rob.specs.declared.directive.StepError.TheVariants.{Memory}
-use Rattle.bl_rob.specs.declared.entry.Act.TheVariants.{Idle, Becomes, Turns}
+use Rattle.bl_rob.specs.declared.entry.Act.TheVariants.{Idle, Becomes, RollsBack}
 use Rattle.bl_rob.specs.declared.entry.Entry.{Entry}
 use Rattle.bl_rob.specs.declared.entry.Register.{Register}
 use Rattle.bl_rob.specs.declared.entry.Source.{Source}
@@ -100,36 +100,36 @@ module _ (program : Program) (n : ℕ) (s : State) where
       let same : x ≡ entry = cc in
       ap (acted n s x) h ∙ ap (λ (y : Entry). Some (become n y.position work s, observation)) same
 
-  pub turns : (o : Option Entry) → act_by program s n o ≡ Turns → exec_entry program n s o ≡ Some (turned_at n s o, seen.Rollback n)
-  turns None h = cc
-  turns (Some entry) h = ap (acted n s entry) h
+  pub rolls_back : (o : Option Entry) → act_by program s n o ≡ RollsBack → exec_entry program n s o ≡ Some (rolled_back_at n s o, seen.Rollback n)
+  rolls_back None h = cc
+  rolls_back (Some entry) h = ap (acted n s entry) h
 
-  pub is_judged : (o : Option Entry) → act_by program s n o ≡ Turns → IfSome o (λ entry. IsTrue (is_guard entry.work))
+  pub is_judged : (o : Option Entry) → act_by program s n o ≡ RollsBack → IfSome o (λ entry. IsTrue (is_guard entry.work))
   is_judged None h = tt
   is_judged (Some entry) h = by entry.work h
     where
-      no_assign : (mask : ℕ) (protect : Bool) (op : Op) (to : Register) (a b c : Option ℕ) → assigns mask protect op to a b c ≡ Turns → ⊥
+      no_assign : (mask : ℕ) (protect : Bool) (op : Op) (to : Register) (a b c : Option ℕ) → assigns mask protect op to a b c ≡ RollsBack → ⊥
       no_assign mask protect op to (Some a) (Some b) (Some c) h = cc
       no_assign mask protect op to (Some a) (Some b) None h = cc
       no_assign mask protect op to (Some a) None c h = cc
       no_assign mask protect op to None b c h = cc
 
       no_load : (space : List ℕ) (mask : ℕ) (passes protect : Bool) (kind : AccessKind) (memory : ℕ) (to : Register) (offset : ℕ) (a : Option ℕ)
-          → loads program space mask passes protect kind memory to offset a ≡ Turns → ⊥
+          → loads program space mask passes protect kind memory to offset a ≡ RollsBack → ⊥
       no_load space mask passes protect kind memory to offset None h = cc
       no_load space mask true protect kind memory to offset (Some a) h = cc
       no_load space mask false protect kind memory to offset (Some a) h = cc
 
-      no_store : (mask : ℕ) (kind : AccessKind) (memory offset : ℕ) (a b : Option ℕ) → stores program mask kind memory offset a b ≡ Turns → ⊥
+      no_store : (mask : ℕ) (kind : AccessKind) (memory offset : ℕ) (a b : Option ℕ) → stores program mask kind memory offset a b ≡ RollsBack → ⊥
       no_store mask kind memory offset (Some a) (Some b) h = cc
       no_store mask kind memory offset (Some a) None h = cc
       no_store mask kind memory offset None b h = cc
 
-      no_held : (guarded : Bool) (to : Register) (value : ℕ) → frees guarded to value ≡ Turns → ⊥
+      no_held : (guarded : Bool) (to : Register) (value : ℕ) → frees guarded to value ≡ RollsBack → ⊥
       no_held true to value h = cc
       no_held false to value h = cc
 
-      by : (work : Work) → act program s.registers s.space (take n s.buffer) work ≡ Turns → IsTrue (is_guard work)
+      by : (work : Work) → act program s.registers s.space (take n s.buffer) work ≡ RollsBack → IsTrue (is_guard work)
       by Nop h = cc
       by (Assign protect op to a b c) h = absurd (no_assign _ protect op to _ _ _ h)
       by (Load protect kind memory to offset address) h = absurd (no_load _ _ _ protect kind memory to offset _ h)
@@ -169,12 +169,12 @@ read_cut (y ∷ xs) (suc n) d lt = read_cut xs n d (omega arith)
 -- the machine behind a guard that was wrong
 pub cut_back : (n : ℕ) (s : State) (o : Option Entry) (x : Entry) (cond : Source) (predicted : Bool) (other : ℕ) (chain : List ℕ)
     → slice_get s.buffer n ≡ o → n < length s.buffer → x ≡ get_or s.buffer n x → x.work ≡ Guard cond predicted other chain
-    → record s { buffer = set (take (suc n) s.buffer) n (record { position = x.position; work = Nop }); front = at_position other chain } ≡ turned_at n s o
+    → record s { buffer = set (take (suc n) s.buffer) n (record { position = x.position; work = Nop }); front = at_position other chain } ≡ rolled_back_at n s o
 cut_back n s None x cond predicted other chain h lt is w = let has = within_get s.buffer n lt in let e = has.1 in cc
 cut_back n s (Some entry) x cond predicted other chain h lt is w =
     let same : x ≡ entry = is ∙ get_or_from_slice_get s.buffer n entry x h in
     ap (λ l. record s { buffer = l; front = at_position other chain }) (cut_at s.buffer n (record { position = x.position; work = Nop }) lt)
-    ∙ ap (λ y. turned n x.position y s) (sym w) ∙ ap (λ (e : Entry). turned n e.position e.work s) same
+    ∙ ap (λ y. rolled_back n x.position y s) (sym w) ∙ ap (λ (e : Entry). rolled_back n e.position e.work s) same
 
 -- the entry there is a guard
 pub guard_at : (s : State) (n : ℕ) (o : Option Entry) (x : Entry) → slice_get s.buffer n ≡ o → n < length s.buffer → x ≡ get_or s.buffer n x

@@ -7,7 +7,7 @@ use Rattle.bl_cmd.specs.Layout.{command_at}
 use Rattle.bl_cmd.specs.declared.command.Command.{Command}
 use Rattle.bl_cmd.specs.declared.definitions.ProgramParts.{ProgramParts as Program}
 use Rattle.bl_seq.specs.RegisterTrees.{register_at}
-use Rattle.bl_rob.specs.Machines.{State, Fetched, Straight, Branch, Nowhere, has_room, act, turned, exec_entry, directive_step, end_in, outcome_by}
+use Rattle.bl_rob.specs.Machines.{State, Fetched, Straight, Branch, Nowhere, has_room, act, rolled_back, exec_entry, directive_step, end_in, outcome_by}
 use Rattle.bl_rob.specs.Observations.{Observed, Rules}
 use Rattle.bl_rob.specs.declared.directive.Directive.{Directive}
 use Rattle.bl_rob.specs.declared.directive.Directive.TheVariants.{Fetch, Predict, Exec, Retire}
@@ -76,9 +76,9 @@ abbrev pub act_at : Program → State → ℕ → Act
 act_at program s n = act_by program s n (slice_get s.buffer n)
 
 -- the machine behind a guard that was wrong
-abbrev pub turned_at : ℕ → State → Option Entry → State
-turned_at n s None = s
-turned_at n s (Some entry) = turned n entry.position entry.work s
+abbrev pub rolled_back_at : ℕ → State → Option Entry → State
+rolled_back_at n s None = s
+rolled_back_at n s (Some entry) = rolled_back n entry.position entry.work s
 
 -- the command at the front end, unless that has ended
 abbrev pub command_from : Program → Front → Option End → Option Command

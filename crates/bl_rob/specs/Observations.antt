@@ -109,9 +109,6 @@ pub record AreAlikeBy {O : Type 0} (rules : Rules O) (program : Program) (functi
   pub demands : MeetWhereEnded program function (after_by rules directives (opening program function a)) (after_by rules directives (opening program function b))
       (end_in (after_by rules directives (opening program function a))) (end_in (after_by rules directives (opening program function b)))
 
-abbrev pub AreAlike : ℕ → Program → ℕ → List Directive → Start → Start → Type 0
-AreAlike most program = AreAlikeBy (directive_step most program) program
-
 -- runs of one function from starts that agree in public are observed alike, whatever the directives and the size of the buffer
 abbrev pub HasEqualObservationsBy : {O : Type 0} → (ℕ → Program → Rules O) → Program → Type 0
 HasEqualObservationsBy rules program = (most : ℕ) → 1 ≤ most → most ≤ 64

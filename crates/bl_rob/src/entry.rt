@@ -187,5 +187,5 @@ pub enum Act {
     /// It does that instead from then on.
     Becomes(Work, Observation),
     /// It guessed wrong.
-    Turns,
+    RollsBack,
 }

@@ -75,7 +75,7 @@ fn judges(predicted: bool, cond: Option<u64>) -> Act
     if predicted == (cond % 0x1_0000_0000 != 0) {
         Act::Becomes(Work::Nop, Observation::Nothing)
     } else {
-        Act::Turns
+        Act::RollsBack
     }
 }
 

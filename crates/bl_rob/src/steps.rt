@@ -3,7 +3,7 @@ ghost use Rattle.std.specs.Prelude.{◌≡◌, ◌≤◌, ◌<◌, ◌^◌, ℕ,
 ghost use Rattle.bl_cmd.specs.Steps.{stored, written};
 ghost use Rattle.bl_cmd.specs.declared.definitions.ProgramParts.{ProgramParts};
 ghost use Rattle.bl_seq.specs.Layouts.{IsLayout};
-ghost use Rattle.bl_rob.specs.CallResults.{Executes, Steps, is_enabled, shown, turned_at};
+ghost use Rattle.bl_rob.specs.CallResults.{Executes, Steps, is_enabled, shown, rolled_back_at};
 ghost use Rattle.bl_rob.specs.Effects.{effect_of, first_effect};
 ghost use Rattle.bl_rob.specs.Machines.{at_position, become, ended_at, is_guard, without};
 ghost use Rattle.bl_rob.specs.declared.directive.Directive.TheVariants.{Exec, Retire};
@@ -84,8 +84,8 @@ impl Machine {
                 self.replace(n, work);
                 Some(observation)
             }
-            Act::Turns => {
-                self.turn(n);
+            Act::RollsBack => {
+                self.roll_back(n);
                 Some(Observation::Rollback(n as u32))
             }
         }
@@ -110,10 +110,10 @@ impl Machine {
     }
 
     /// Drops what stands behind a guard, and goes to its other branch.
-    fn turn(&mut self, n: usize)
+    fn roll_back(&mut self, n: usize)
         requires guard { IfSome (slice_get self.old.entries.items n) (λ entry. IsTrue (is_guard entry.work)) }
         requires within { n < length self.old.entries.items }
-        ensures { shown self.new ≡ turned_at n (shown self.old) (slice_get self.old.entries.items n) }
+        ensures { shown self.new ≡ rolled_back_at n (shown self.old) (slice_get self.old.entries.items n) }
     {
         self.drop_behind(n);
         let guard = mem::replace(&mut self.entries[n].work, Work::Nop);

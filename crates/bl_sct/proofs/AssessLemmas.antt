@@ -15,10 +15,10 @@ use Rattle.bl_sct.specs.declared.verdict.Verdict.TheVariants.{Safe}
 use Rattle.bl_sct.proofs.EqualObservations.{equal}
 
 -- what is transient in each typing
-pub hot : (program : Program) (set typing : ℕ → Bool) → Assigns program typing set → (x : ℕ) → Trans program set x → IsTrue (typing x)
-hot program set typing a x (loaded s _ l w f) = a.loads s x l w f
-hot program set typing a x (moved s y _ r w f t) = a.moves s y x r w f (hot program set typing a y t)
-hot program set typing a x (given _ h) = a.given x h
+pub transient : (program : Program) (set typing : ℕ → Bool) → Assigns program typing set → (x : ℕ) → Trans program set x → IsTrue (typing x)
+transient program set typing a x (loaded s _ l w f) = a.loads s x l w f
+transient program set typing a x (moved s y _ r w f t) = a.moves s y x r w f (transient program set typing a y t)
+transient program set typing a x (given _ h) = a.given x h
 
 module _ (program : Program) (constant : ConstantTime program) (leak : Option Pos) (judged : IsFirstLeak program (is_protected program) leak) where
   pub safe : IsProgram program → IsWellFormed program → leak ≡ None → Assesses program Safe
@@ -31,6 +31,6 @@ module _ (program : Program) (constant : ConstantTime program) (leak : Option Po
       let first = subst (IsFirstLeak program (is_protected program)) is judged in
       record {
         constant_time = constant;
-        passes_not = λ p. never_both (p.0 first.var) (hot program (is_protected program) p.0 p.1.assigns first.var first.hot) (p.1.sinks position.0 first.var first.sink);
+        passes_not = λ p. never_both (p.0 first.var) (transient program (is_protected program) p.0 p.1.assigns first.var first.transient) (p.1.sinks position.0 first.var first.sink);
         first = first;
       }

@@ -38,10 +38,10 @@ both_is : (a b : Bool) → a ≡ true → b ≡ true → (a && b) ≡ true
 both_is a b h k = rw (h, k) refl
 
 -- what is true of one is true of the other; so what isn't true of that isn't true of this
-turned : (a b : Bool) → (IsTrue a → IsTrue b) → IsTrue (not b) → IsTrue (not a)
-turned false b h k = refl
-turned true false h k = let f = h refl in cc
-turned true true h k = k
+rolled_back : (a b : Bool) → (IsTrue a → IsTrue b) → IsTrue (not b) → IsTrue (not a)
+rolled_back false b h k = refl
+rolled_back true false h k = let f = h refl in cc
+rolled_back true true h k = k
 
 fine : (clear : ℕ → Bool) (program : Program) (depth : ℕ) (a : Operand) → ((x : ℕ) → Names a x → IsTrue (clear x)) → IsClear clear (source_of program depth a)
 fine clear program depth (operand.Var x) h = h x.0 refl
@@ -97,7 +97,7 @@ module _ (program : Program) (labelling : ℕ → Bool) (ok : KeepsLabelRules pr
 
     public_move : (x y : ℕ) → Among (moved_by k) x → written_by program p k ≡ Some y → IsTrue (public y) → IsTrue (public x)
     public_move x y h w =
-        turned (labelling x) (labelling y)
+        rolled_back (labelling x) (labelling y)
         (ok.assigns.moves p x y (stands program p k (λ c. Among (moved_by c) x) e h) (stands program p k (λ c. written_by program p c ≡ Some y) e w))
 
     public_store : (x : ℕ) → GivesPublic program k x → IsTrue (public x)
@@ -197,7 +197,7 @@ module _ (program : Program) (typing labelling : ℕ → Bool) (flows : Flows pr
     clear_move x y h w open_ q =
         let parts = each_true (not (typing y)) (not (labelling y)) q in
         both_is _ _
-        (turned (typing x) (typing y)
+        (rolled_back (typing x) (typing y)
         (flows.assigns.moves p x y (stands program p k (λ c. Among (moved_by c) x) e h) (stands program p k (λ c. written_by program p c ≡ Some y) e w) open_) parts.0)
         (public_move program labelling ok p k e x y h w parts.1)
 

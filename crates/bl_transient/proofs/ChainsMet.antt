@@ -37,7 +37,7 @@ module _ (program : Program) (set : ℕ → Bool) where
         free = All-push (λ t. IsTrue (not (set t))) before.sites s before.free may;
         on = λ rest sink carries. subst (λ sites. IsChain program sites sink) (sym (append_assoc before.sites (s ∷ []) rest)) (before.on (s ∷ rest) sink (reads, (x, writes, carries)));
       }
-  way x (given _ hot) = absurd (false≢true hot)
+  way x (given _ transient) = absurd (false≢true transient)
 
   no_both : (sites : List ℕ) → All (λ s. IsTrue (not (set s))) sites → Protected set sites → ⊥
   no_both sites free met =

@@ -53,10 +53,10 @@ module _ (program : Program) (g : Graph) (lists : IsGraph program g) (names : Li
     written_within s i e = let x = free_back s i e in slice_get_within names i x.0 x.1
 
     -- with variables that are asked to be transient
-    module _ (asked : Asked) (hots : List ℕ) (back : (i : ℕ) → Contains hots i → (x : ℕ) × (slice_get names i ≡ Some x) × IsTrue (asked.hot x))
-        (there : (i x : ℕ) → slice_get names i ≡ Some x → IsTrue (asked.hot x) → Contains hots i) where
-      spread_trans : (i : ℕ) → Spread written hots g.loads reads i → (x : ℕ) × (slice_get names i ≡ Some x) × TransUnder asked program set x
-      spread_trans i (begun _ hot) = let x = back i hot in (x.0, x.1, given x.0 x.2)
+    module _ (asked : Asked) (transients : List ℕ) (back : (i : ℕ) → Contains transients i → (x : ℕ) × (slice_get names i ≡ Some x) × IsTrue (asked.transient x))
+        (there : (i x : ℕ) → slice_get names i ≡ Some x → IsTrue (asked.transient x) → Contains transients i) where
+      spread_trans : (i : ℕ) → Spread written transients g.loads reads i → (x : ℕ) × (slice_get names i ≡ Some x) × TransUnder asked program set x
+      spread_trans i (begun _ transient) = let x = back i transient in (x.0, x.1, given x.0 x.2)
       spread_trans i (filled s _ load e) =
           let x = free_back s i e in
           (x.0, x.1, loaded s x.0 ((lists.loads s).0 load) ((lists.writes.each s x.0).0 x.2) ((free.each s i).0 e).1)
@@ -70,15 +70,15 @@ module _ (program : Program) (g : Graph) (lists : IsGraph program g) (names : Li
       wrote : (s x i : ℕ) → slice_get names i ≡ Some x → Writes program s x → IsTrue (not (set s)) → noted written s ≡ Some i
       wrote s x i e writes_ may = (free.each s i).1 ((uses_are names named.rise g.writes (writes_named program g names lists named) s i).1 (x, e, (lists.writes.each s x).1 writes_), may)
 
-      trans_spread : (x : ℕ) → TransUnder asked program set x → (i : ℕ) → slice_get names i ≡ Some x → Spread written hots g.loads reads i
+      trans_spread : (x : ℕ) → TransUnder asked program set x → (i : ℕ) → slice_get names i ≡ Some x → Spread written transients g.loads reads i
       trans_spread x (loaded s _ load writes_ may) i e = filled s i ((lists.loads s).1 load) (wrote s x i e writes_ may)
       trans_spread x (moved s y _ read writes_ may t) i e =
           let at = at_place names y named.rise (named.reads s y read) in
           led s (place_of names y) i ((uses_are names named.rise g.reads (reads_named program g names lists named) s (place_of names y)).1 (y, at, (lists.reads.each s y).1 read))
           (wrote s x i e writes_ may) (trans_spread y t (place_of names y) at)
-      trans_spread x (given _ hot) i e = begun i (there i x e hot)
+      trans_spread x (given _ transient) i e = begun i (there i x e transient)
 
-      pub marks_are : (marks : List Bool) → ((i : ℕ) → IsTrue (is_in marks i) ↔ Spread written hots g.loads reads i)
+      pub marks_are : (marks : List Bool) → ((i : ℕ) → IsTrue (is_in marks i) ↔ Spread written transients g.loads reads i)
           → (i x : ℕ) → slice_get names i ≡ Some x → IsTrue (is_in marks i) ↔ TransUnder asked program set x
       marks_are marks exact i x e = (
         (λ h. let t = spread_trans i ((exact i).0 h) in subst (TransUnder asked program set) (same_Some t.0 x (sym t.1 ∙ e)) t.2),
@@ -108,7 +108,7 @@ module _ (program : Program) (g : Graph) (lists : IsGraph program g) (names : Li
         record {
           var = x.0;
           sink = (lists.sinks.each position x.0).0 x.2;
-          hot = (exact first.var x.0 x.1).0 first.hot;
+          transient = (exact first.var x.0 x.1).0 first.transient;
           least = λ other y sink t. let there = sink_there other y sink in first.least other there.0 there.2 ((exact there.0 y there.1).1 t);
         }
 

@@ -28,7 +28,7 @@ module _ (program : Program) (g : Graph) (lists : IsGraph program g) (set : ℕ 
   trans_spread : (x : ℕ) → Trans program set x → Spread written [] g.loads g.reads x
   trans_spread x (loaded s _ load writes may) = filled s x ((lists.loads s).1 load) ((free.each s x).1 ((lists.writes.each s x).1 writes, may))
   trans_spread x (moved s y _ reads writes may t) = led s y x ((lists.reads.each s y).1 reads) ((free.each s x).1 ((lists.writes.each s x).1 writes, may)) (trans_spread y t)
-  trans_spread x (given _ hot) = absurd (false≢true hot)
+  trans_spread x (given _ transient) = absurd (false≢true transient)
 
   pub marks_are : (marks : List Bool) → ((x : ℕ) → IsTrue (is_in marks x) ↔ Spread written [] g.loads g.reads x) → (x : ℕ) → IsTrue (is_in marks x) ↔ Trans program set x
   marks_are marks exact x = ((λ h. spread_trans x ((exact x).0 h)), (λ t. (exact x).1 (trans_spread x t)))
@@ -68,7 +68,7 @@ module _ (program : Program) (g : Graph) (lists : IsGraph program g) (set : ℕ 
       record {
         places = ap length e ∙ (types_length marks ∙ places);
         flows_hold = exact_flows nothing program set (typing_of flows) trans
-            (λ position x sink t. none position x ((lists.sinks.each position x).1 sink) ((exact x).1 t)) (λ x firm. absurd (false≢true firm));
+            (λ position x sink t. none position x ((lists.sinks.each position x).1 sink) ((exact x).1 t)) (λ x stable. absurd (false≢true stable));
         trans = trans;
       }
 
@@ -76,6 +76,6 @@ module _ (program : Program) (g : Graph) (lists : IsGraph program g) (set : ℕ 
   first_trans position first = record {
     var = first.var;
     sink = (lists.sinks.each position first.var).0 first.sink;
-    hot = (exact first.var).0 first.hot;
+    transient = (exact first.var).0 first.transient;
     least = λ other x sink t. first.least other x ((lists.sinks.each other x).1 sink) ((exact x).1 t);
   }

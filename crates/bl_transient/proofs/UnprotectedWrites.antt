@@ -76,9 +76,9 @@ move_in written (read ∷ reads) s u v h e =
 
 -- ---- where they lead
 
-module _ (written : List (Option ℕ)) (hot : List ℕ) (loads : List Pos) (reads : List Use) where
+module _ (written : List (Option ℕ)) (transient : List ℕ) (loads : List Pos) (reads : List Use) where
   abbrev pub roots : List ℕ
-  roots = hot ++ roots_from written loads
+  roots = transient ++ roots_from written loads
 
   pub moves_within : (n : ℕ) → All (λ r. r.var.0 < n) reads → All (λ move. move.from < n) (moves_from written reads)
   moves_within n all = all_from (λ move. move.from < n) (moves_from written reads) (λ m h.
@@ -86,27 +86,27 @@ module _ (written : List (Option ℕ)) (hot : List ℕ) (loads : List Pos) (read
       All-contains (λ r. r.var.0 < n) reads (use_of found.0 m.from) all found.1)
 
   module _ (n : ℕ) (within : (s x : ℕ) → noted written s ≡ Some x → x < n) where
-    pub roots_within : All (λ x. x < n) hot → All (λ x. x < n) roots
+    pub roots_within : All (λ x. x < n) transient → All (λ x. x < n) roots
     roots_within all =
-        All-append (λ x. x < n) hot (roots_from written loads) all
+        All-append (λ x. x < n) transient (roots_from written loads) all
         (all_from (λ x. x < n) (roots_from written loads) (λ x h. let found = root_from written loads x h in within found.0 x found.2))
 
     pub rows_within : (rows : List (List ℕ)) → RowsOf (moves_from written reads) rows → (u v : ℕ) → Contains (row_at rows u) v → v < n
     rows_within rows hold u v h = let found = move_from written reads u v (hold.sound u v h) in within found.0 v found.2
 
   module _ (rows : List (List ℕ)) (hold : RowsOf (moves_from written reads) rows) where
-    reached_spread : (x : ℕ) → Reached rows roots x → Spread written hot loads reads x
+    reached_spread : (x : ℕ) → Reached rows roots x → Spread written transient loads reads x
     reached_spread x (root _ h) =
-        elim (Contains-append_cases hot (roots_from written loads) x h) as (λ _. Spread written hot loads reads x) [
+        elim (Contains-append_cases transient (roots_from written loads) x h) as (λ _. Spread written transient loads reads x) [
           | inl there ↦ begun x there
           | inr load ↦ let found = root_from written loads x load in filled found.0 x found.1 found.2
         ]
     reached_spread x (step u _ before h) = let found = move_from written reads u x (hold.sound u x h) in led found.0 u x found.1 found.2 (reached_spread u before)
 
-    spread_reached : (x : ℕ) → Spread written hot loads reads x → Reached rows roots x
-    spread_reached x (begun _ h) = root x (Contains-append_left hot (roots_from written loads) x h)
-    spread_reached x (filled s _ h e) = root x (Contains-append_right hot (roots_from written loads) x (root_in written loads s x h e))
+    spread_reached : (x : ℕ) → Spread written transient loads reads x → Reached rows roots x
+    spread_reached x (begun _ h) = root x (Contains-append_left transient (roots_from written loads) x h)
+    spread_reached x (filled s _ h e) = root x (Contains-append_right transient (roots_from written loads) x (root_in written loads s x h e))
     spread_reached x (led s y _ h e t) = step y x (spread_reached y t) (hold.full y x (move_in written reads s y x h e))
 
-    pub spread_are : (marks : List Bool) → ((x : ℕ) → IsTrue (is_in marks x) ↔ Reached rows roots x) → (x : ℕ) → IsTrue (is_in marks x) ↔ Spread written hot loads reads x
+    pub spread_are : (marks : List Bool) → ((x : ℕ) → IsTrue (is_in marks x) ↔ Reached rows roots x) → (x : ℕ) → IsTrue (is_in marks x) ↔ Spread written transient loads reads x
     spread_are marks exact x = ((λ h. reached_spread x ((exact x).0 h)), (λ t. (exact x).1 (spread_reached x t)))

@@ -40,7 +40,7 @@ pub record SearchState (rows : List (List ℕ)) (roots : List ℕ) (marks : List
 pub record IsFirstOf (typing : ℕ → Type 0) (sinks : List Use) (position : ℕ) : Type 0 where
   pub var : ℕ
   pub sink : Contains sinks (use_of position var)
-  pub hot : typing var
+  pub transient : typing var
   pub least : (other x : ℕ) → Contains sinks (use_of other x) → typing x → position ≤ other
 
 abbrev pub FirstSink : List Bool → List Use → Option ℕ → Type 0
@@ -75,10 +75,10 @@ moves_from written [] = []
 moves_from written (read ∷ reads) = moved_to read.var.0 (noted written read.at.0) ++ moves_from written reads
 
 -- one of these variables, or what a load writes, or what a site writes that reads such a one, where so is noted what sites write
-pub data Spread (written : List (Option ℕ)) (hot : List ℕ) (loads : List Pos) (reads : List Use) : ℕ → Type 0 where
-  begun : (x : ℕ) → Contains hot x → Spread written hot loads reads x
-  filled : (s x : ℕ) → Contains loads (record { 0 = s }) → noted written s ≡ Some x → Spread written hot loads reads x
-  led : (s x y : ℕ) → Contains reads (use_of s x) → noted written s ≡ Some y → Spread written hot loads reads x → Spread written hot loads reads y
+pub data Spread (written : List (Option ℕ)) (transient : List ℕ) (loads : List Pos) (reads : List Use) : ℕ → Type 0 where
+  begun : (x : ℕ) → Contains transient x → Spread written transient loads reads x
+  filled : (s x : ℕ) → Contains loads (record { 0 = s }) → noted written s ≡ Some x → Spread written transient loads reads x
+  led : (s x y : ℕ) → Contains reads (use_of s x) → noted written s ≡ Some y → Spread written transient loads reads x → Spread written transient loads reads y
 
 -- the flow type of a mark
 abbrev pub flow_type : Bool → Flow
@@ -91,12 +91,12 @@ abbrev pub kept_if : Bool → ℕ → Option ℕ
 kept_if true x = Some x
 kept_if false x = None
 
-abbrev pub firm_one : List Bool → Option ℕ → Option ℕ
-firm_one firm None = None
-firm_one firm (Some x) = kept_if (is_in firm x) x
+abbrev pub stable_one : List Bool → Option ℕ → Option ℕ
+stable_one stable None = None
+stable_one stable (Some x) = kept_if (is_in stable x) x
 
-abbrev pub firm_noted : List (Option ℕ) → List Bool → ℕ → Option ℕ
-firm_noted written firm s = firm_one firm (noted written s)
+abbrev pub stable_noted : List (Option ℕ) → List Bool → ℕ → Option ℕ
+stable_noted written stable s = stable_one stable (noted written s)
 
 -- a read, where its site writes such a variable
 abbrev pub noted_read : Use → Option ℕ → List Use
@@ -109,11 +109,11 @@ noted_load s None = []
 noted_load s (Some x) = use_of s x ∷ []
 
 -- the reads of the sites that write a marked variable
-abbrev pub firm_reads : List (Option ℕ) → List Bool → List Use → List Use
-firm_reads written firm [] = []
-firm_reads written firm (read ∷ reads) = noted_read read (firm_noted written firm read.at.0) ++ firm_reads written firm reads
+abbrev pub stable_reads : List (Option ℕ) → List Bool → List Use → List Use
+stable_reads written stable [] = []
+stable_reads written stable (read ∷ reads) = noted_read read (stable_noted written stable read.at.0) ++ stable_reads written stable reads
 
 -- the loads that write one, each with it
-abbrev pub firm_loads : List (Option ℕ) → List Bool → List Pos → List Use
-firm_loads written firm [] = []
-firm_loads written firm (load ∷ loads) = noted_load load.0 (firm_noted written firm load.0) ++ firm_loads written firm loads
+abbrev pub stable_loads : List (Option ℕ) → List Bool → List Pos → List Use
+stable_loads written stable [] = []
+stable_loads written stable (load ∷ loads) = noted_load load.0 (stable_noted written stable load.0) ++ stable_loads written stable loads

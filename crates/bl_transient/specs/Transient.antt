@@ -6,11 +6,11 @@ use Rattle.bl_cmd.specs.declared.definitions.ProgramParts.{ProgramParts as Progr
 
 -- what is asked of variables beside the rules: that some be transient, and that some be stable
 pub record Asked : Type 0 where
-  pub hot : ℕ → Bool
-  pub firm : ℕ → Bool
+  pub transient : ℕ → Bool
+  pub stable : ℕ → Bool
 
 abbrev pub nothing : Asked
-nothing = record { hot = λ x. false; firm = λ x. false }
+nothing = record { transient = λ x. false; stable = λ x. false }
 
 -- a typing, for which true stands for transient, keeps the rules on what sites write, where those of a set are protected, and
 -- has as transient what is asked to be
@@ -20,7 +20,7 @@ pub record AssignsUnder (asked : Asked) (program : Program) (typing set : ℕ �
   -- a Set, Arg or Out that isn't protected and reads a transient variable writes a transient one
   pub moves : (s x y : ℕ) → Reads program s x → Writes program s y → IsTrue (not (set s)) → IsTrue (typing x) → IsTrue (typing y)
   -- what is asked to be transient is
-  pub given : (x : ℕ) → IsTrue (asked.hot x) → IsTrue (typing x)
+  pub given : (x : ℕ) → IsTrue (asked.transient x) → IsTrue (typing x)
 
 -- a typing keeps all transient rules, and has as stable what is asked to be
 pub record FlowsUnder (asked : Asked) (program : Program) (typing set : ℕ → Bool) : Type 0 where
@@ -28,7 +28,7 @@ pub record FlowsUnder (asked : Asked) (program : Program) (typing set : ℕ → 
   -- each variable that a sink reads is stable
   pub sinks : (position x : ℕ) → SinkReads program position x → IsTrue (not (typing x))
   -- what is asked to be stable is
-  pub firm : (x : ℕ) → IsTrue (asked.firm x) → IsTrue (not (typing x))
+  pub stable : (x : ℕ) → IsTrue (asked.stable x) → IsTrue (not (typing x))
 
 -- some typing keeps all transient rules and has what is asked
 abbrev pub PassesUnder : Asked → Program → (ℕ → Bool) → Type 0
@@ -39,7 +39,7 @@ pub data TransUnder (asked : Asked) (program : Program) (set : ℕ → Bool) : �
   loaded : (s x : ℕ) → IsLoad program s → Writes program s x → IsTrue (not (set s)) → TransUnder asked program set x
   moved : (s x y : ℕ) → Reads program s x → Writes program s y → IsTrue (not (set s)) → TransUnder asked program set x
       → TransUnder asked program set y
-  given : (x : ℕ) → IsTrue (asked.hot x) → TransUnder asked program set x
+  given : (x : ℕ) → IsTrue (asked.transient x) → TransUnder asked program set x
 
 -- a Load, or a site that reads a transient variable
 abbrev pub IsFedUnder : Asked → Program → (ℕ → Bool) → ℕ → Type 0

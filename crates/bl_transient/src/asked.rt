@@ -14,19 +14,19 @@ use std::alloc::Global;
 #[derive(Debug, Drop)]
 pub struct AskedOf {
     /// These are to be transient.
-    pub hot: List<u32>,
+    pub transient: List<u32>,
     /// These are to be stable.
-    pub firm: List<u32>,
+    pub stable: List<u32>,
 }
 
 impl AskedOf {
     /// Nothing is asked. Takes no memory.
     pub fn nothing(alloc: Global) -> AskedOf
-        ensures { result ≡ record { hot = []; firm = [] } }
+        ensures { result ≡ record { transient = []; stable = [] } }
     {
         AskedOf {
-            hot: List::new(alloc),
-            firm: List::new(alloc),
+            transient: List::new(alloc),
+            stable: List::new(alloc),
         }
     }
 }
@@ -40,15 +40,15 @@ pub fn names_under(
     asked: &AskedOf,
 ) -> Result<Names, NoMemory>
     requires graph { IsGraph program.now graph.now }
-    requires hot { All (λ x. x < variables program.now) asked.now.hot }
-    requires firm { All (λ x. x < variables program.now) asked.now.firm }
+    requires transient { All (λ x. x < variables program.now) asked.now.transient }
+    requires stable { All (λ x. x < variables program.now) asked.now.stable }
     ensures names { IfOk result (λ names. AreNames program.now names) }
-    ensures hot { IfOk result (λ names. All (λ x. Contains names x) asked.now.hot) }
-    ensures firm { IfOk result (λ names. All (λ x. Contains names x) asked.now.firm) }
+    ensures transient { IfOk result (λ names. All (λ x. Contains names x) asked.now.transient) }
+    ensures stable { IfOk result (λ names. All (λ x. Contains names x) asked.now.stable) }
 {
     let mut more = Vec::new(alloc);
-    more.extend_from_slice(asked.hot.as_slice())?;
-    more.extend_from_slice(asked.firm.as_slice())?;
+    more.extend_from_slice(asked.transient.as_slice())?;
+    more.extend_from_slice(asked.stable.as_slice())?;
     let names = names_of(alloc, program, graph, &more)?;
     Ok(names)
 }

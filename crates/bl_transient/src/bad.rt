@@ -4,7 +4,7 @@ ghost use Rattle.std.specs.FinSet as fin;
 ghost use Rattle.bl_graph.specs.Graphs.{IsGraph};
 ghost use Rattle.bl_graph.specs.Names.{AreNames};
 ghost use Rattle.bl_graph.specs.Ranges.{variables};
-ghost use Rattle.bl_transient.specs.Reachability.{firm_loads, firm_noted, firm_reads, noted_load, noted_read};
+ghost use Rattle.bl_transient.specs.Reachability.{stable_loads, stable_noted, stable_reads, noted_load, noted_read};
 ghost use Rattle.bl_transient.specs.Verdicts.{AreBars, JudgesUnder, asked_of};
 
 use crate::asked::{AskedOf, marked, names_under, numbers_of};
@@ -27,9 +27,9 @@ pub fn first_bad_of(
     protects: &SiteSet,
 ) -> Result<Option<Pos>, NoMemory>
     requires graph { IsGraph program.now graph.now }
-    requires hot { All (λ x. x < variables program.now) asked.now.hot }
-    requires firm { All (λ x. x < variables program.now) asked.now.firm }
-    requires apart { (x : ℕ) → Contains asked.now.hot x → Contains asked.now.firm x → ⊥ }
+    requires transient { All (λ x. x < variables program.now) asked.now.transient }
+    requires stable { All (λ x. x < variables program.now) asked.now.stable }
+    requires apart { (x : ℕ) → Contains asked.now.transient x → Contains asked.now.stable x → ⊥ }
     ensures { IfOk result (λ bad. JudgesUnder (asked_of asked.now) program.now (fin.contains protects.now) bad) }
 {
     let names = names_under(alloc, program, graph, asked)?;
@@ -53,28 +53,28 @@ fn barred_uses(
 ) -> Result<Vec<Use>, NoMemory>
     requires graph { IsGraph program.now graph.now }
     requires names { AreNames program.now names.now }
-    requires firm { All (λ x. Contains names.now x) asked.now.firm }
+    requires stable { All (λ x. Contains names.now x) asked.now.stable }
     ensures { IfOk result (λ uses. AreBars (asked_of asked.now) program.now (fin.contains protects.now) names.now uses.items) }
 {
     ranges(program);
     let written = written_named(alloc, program, graph, names, protects)?;
     let reads = names.numbered(alloc, graph.reads.as_slice())?;
     let sinks = names.numbered(alloc, graph.sinks.as_slice())?;
-    let numbers = numbers_of(alloc, names, asked.firm.as_slice())?;
-    let firm = marked(alloc, names.len(), &numbers)?;
+    let numbers = numbers_of(alloc, names, asked.stable.as_slice())?;
+    let stable = marked(alloc, names.len(), &numbers)?;
     let mut uses = Vec::new(alloc);
     uses.extend_from_slice(&sinks)?;
-    push_reads(&mut uses, &reads, &written, &firm)?;
-    push_loads(&mut uses, graph.loads.as_slice(), &written, &firm)?;
+    push_reads(&mut uses, &reads, &written, &stable)?;
+    push_loads(&mut uses, graph.loads.as_slice(), &written, &stable)?;
     Ok(uses)
 }
 
 /// The marked variable that is noted for a position, if there is one.
-fn firm_at(written: &[Option<u32>], firm: &[bool], at: Pos) -> Option<u32>
-    ensures { result ≡ firm_noted written.now firm.now at.0 }
+fn stable_at(written: &[Option<u32>], stable: &[bool], at: Pos) -> Option<u32>
+    ensures { result ≡ stable_noted written.now stable.now at.0 }
 {
     match noted_at(written, at) {
-        Some(x) => match firm.get(x as usize) {
+        Some(x) => match stable.get(x as usize) {
             Some(true) => Some(x),
             _ => None,
         },
@@ -87,12 +87,12 @@ fn push_reads(
     uses: &mut Vec<Use>,
     reads: &[Read],
     written: &[Option<u32>],
-    firm: &[bool],
+    stable: &[bool],
 ) -> Result<(), NoMemory>
-    ensures { OnOk result (uses.new.items ≡ uses.old.items ++ firm_reads written.now firm.now reads.now) }
+    ensures { OnOk result (uses.new.items ≡ uses.old.items ++ stable_reads written.now stable.now reads.now) }
 {
     for read in reads {
-        push_read(uses, *read, firm_at(written, firm, read.at))?;
+        push_read(uses, *read, stable_at(written, stable, read.at))?;
     }
     Ok(())
 }
@@ -112,12 +112,12 @@ fn push_loads(
     uses: &mut Vec<Use>,
     loads: &[Pos],
     written: &[Option<u32>],
-    firm: &[bool],
+    stable: &[bool],
 ) -> Result<(), NoMemory>
-    ensures { OnOk result (uses.new.items ≡ uses.old.items ++ firm_loads written.now firm.now loads.now) }
+    ensures { OnOk result (uses.new.items ≡ uses.old.items ++ stable_loads written.now stable.now loads.now) }
 {
     for load in loads {
-        push_load(uses, *load, firm_at(written, firm, *load))?;
+        push_load(uses, *load, stable_at(written, stable, *load))?;
     }
     Ok(())
 }

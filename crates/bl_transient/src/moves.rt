@@ -37,18 +37,18 @@ pub(crate) fn written_named(
 pub(crate) fn spread(
     alloc: Global,
     count: u32,
-    hot: &[u32],
+    transient: &[u32],
     loads: &[Pos],
     reads: &[Read],
     written: &[Option<u32>],
 ) -> Result<Vec<bool>, NoMemory>
-    requires hot { All (λ x. x < count) hot.now }
+    requires transient { All (λ x. x < count) transient.now }
     requires reads { All (λ r. r.var.0 < count) reads.now }
     requires written { (s x : ℕ) → noted written.now s ≡ Some x → x < count }
     ensures places { IfOk result (λ marks. length marks.items ≡ count) }
-    ensures exact { IfOk result (λ marks. (x : ℕ) → IsTrue (is_in marks.items x) ↔ Spread written.now hot.now loads.now reads.now x) }
+    ensures exact { IfOk result (λ marks. (x : ℕ) → IsTrue (is_in marks.items x) ↔ Spread written.now transient.now loads.now reads.now x) }
 {
-    let roots = roots_of(alloc, hot, loads, written)?;
+    let roots = roots_of(alloc, transient, loads, written)?;
     let moves = moves_of(alloc, reads, written)?;
     let rows = rows_of(alloc, &moves, count)?;
     let marks = reached(alloc, &rows, &roots)?;
@@ -58,14 +58,14 @@ pub(crate) fn spread(
 /// These variables, and what the loads that aren't protected write.
 pub(crate) fn roots_of(
     alloc: Global,
-    hot: &[u32],
+    transient: &[u32],
     loads: &[Pos],
     written: &[Option<u32>],
 ) -> Result<Vec<u32>, NoMemory>
-    ensures { IfOk result (λ roots. roots.items ≡ hot.now ++ roots_from written.now loads.now) }
+    ensures { IfOk result (λ roots. roots.items ≡ transient.now ++ roots_from written.now loads.now) }
 {
     let mut roots = Vec::new(alloc);
-    roots.extend_from_slice(hot)?;
+    roots.extend_from_slice(transient)?;
     for load in loads {
         push_root(&mut roots, noted_at(written, *load))?;
     }

@@ -91,16 +91,16 @@ pub(crate) fn named_transients(
 ) -> Result<Vec<bool>, NoMemory>
     requires graph { IsGraph program.now graph.now }
     requires names { AreNames program.now names.now }
-    requires hot { All (λ x. Contains names.now x) asked.now.hot }
+    requires transient { All (λ x. Contains names.now x) asked.now.transient }
     ensures places { IfOk result (λ marks. length marks.items ≡ length names.now) }
     ensures exact { IfOk result (λ marks. (i x : ℕ) → slice_get names.now i ≡ Some x → IsTrue (is_in marks.items i) ↔ TransUnder (asked_of asked.now) program.now (fin.contains protects.now) x) }
 {
     ranges(program);
     let written = written_named(alloc, program, graph, names, protects)?;
     let reads = names.numbered(alloc, graph.reads.as_slice())?;
-    let hot = numbers_of(alloc, names, asked.hot.as_slice())?;
+    let transient = numbers_of(alloc, names, asked.transient.as_slice())?;
     let loads = graph.loads.as_slice();
-    let marks = spread(alloc, names.len(), &hot, loads, &reads, &written)?;
+    let marks = spread(alloc, names.len(), &transient, loads, &reads, &written)?;
     Ok(marks)
 }
 

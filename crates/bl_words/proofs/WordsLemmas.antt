@@ -12,7 +12,7 @@ use Rattle.clap.specs.Walk.{texts}
 use Rattle.bl_base.specs.Quantity.{limit_of}
 use Rattle.bl_base.specs.declared.quantity.Quantity.TheVariants as quantity
 use Rattle.bl_text.specs.Names.{AreNamedApart, module_name}
-use Rattle.bl_words.specs.Requests.{AreInRange, AreTurnsInRange, Command, GenRequest, HardenRequest, InterpRequest, IsGenInRange, Parts, PredictRequest, Request, RunRequest, are_distinct, are_files_unlike, asked_among, command_of, commands, file_named, forward, gen, gen_of, harden, harden_of, interp, interp_of, is_none_of, join, join_of, kept, lower, lower_of, modules_in, modules_of, number_of_steps, part, part_of, parts_behind, parts_by, parts_of, predict, predict_of, request_of, run, run_of, seed_of, size_of, spec, spec_of, steps_of, turns_of, twin, twin_of, value_of, verify, verify_of, with_counts, BeginsWithDash, IsOption, IsTakenApart, no_words, options_end, argument, value_in_next_word, value_in_same_word, OptionName, Steps, Counts, Reading, ends, asks, gives, strange, plain, arguments_alone, begins_with_dash, has_value_of, is_option, options, reading_among, reading_of, with_argument, with_value, word_of}
+use Rattle.bl_words.specs.Requests.{AreInRange, AreDriveStepsInRange, Command, GenRequest, HardenRequest, InterpRequest, IsGenInRange, Parts, PredictRequest, Request, RunRequest, are_distinct, are_files_unlike, asked_among, command_of, commands, file_named, forward, gen, gen_of, harden, harden_of, interp, interp_of, is_none_of, join, join_of, kept, lower, lower_of, modules_in, modules_of, number_of_steps, part, part_of, parts_behind, parts_by, parts_of, predict, predict_of, request_of, run, run_of, seed_of, size_of, spec, spec_of, steps_of, drive_steps_of, twin, twin_of, value_of, verify, verify_of, with_counts, BeginsWithDash, IsOption, IsTakenApart, no_words, options_end, argument, value_in_next_word, value_in_same_word, OptionName, Steps, Counts, Reading, ends, asks, gives, strange, plain, arguments_alone, begins_with_dash, has_value_of, is_option, options, reading_among, reading_of, with_argument, with_value, word_of}
 use Rattle.bl_text.specs.Digits.{decimal_below}
 use Rattle.bl_words.specs.Words.{text_in}
 use Rattle.bl_words.proofs.WordKinds.{value_is}
@@ -217,21 +217,21 @@ run_within : (arguments : List (List ℕ)) (steps : Option (List ℕ)) → IfSom
 run_within (image ∷ export ∷ start ∷ []) steps = with_steps (λ (request : RunRequest). AreInRange request.steps) _ (λ steps within. within) (steps_of steps) (steps_in steps)
 run_within _ _ = tt
 
-turns_in : (value : Option (List ℕ)) → IfSome (turns_of value) AreTurnsInRange
-turns_in value =
-    found_then AreInRange AreTurnsInRange _ (steps_of value) (steps_in value)
-    (λ turns within. of_cond (λ found. IfSome found AreTurnsInRange) (nat_le turns (limit_of quantity.Directives)) (Some turns) None
-    (λ e. record { some = within.some; few = leb-true turns (limit_of quantity.Directives) e })
+drive_steps_in : (value : Option (List ℕ)) → IfSome (drive_steps_of value) AreDriveStepsInRange
+drive_steps_in value =
+    found_then AreInRange AreDriveStepsInRange _ (steps_of value) (steps_in value)
+    (λ steps within. of_cond (λ found. IfSome found AreDriveStepsInRange) (nat_le steps (limit_of quantity.Directives)) (Some steps) None
+    (λ e. record { some = within.some; few = leb-true steps (limit_of quantity.Directives) e })
     (λ _. tt))
 
-predict_within : (arguments : List (List ℕ)) (steps : Option (List ℕ)) → IfSome (predict_of arguments steps) (λ request. AreTurnsInRange request.steps)
-predict_within (image ∷ export ∷ trace ∷ start ∷ []) steps = with_turns (turns_of steps) (turns_in steps)
+predict_within : (arguments : List (List ℕ)) (steps : Option (List ℕ)) → IfSome (predict_of arguments steps) (λ request. AreDriveStepsInRange request.steps)
+predict_within (image ∷ export ∷ trace ∷ start ∷ []) steps = with_drive_steps (drive_steps_of steps) (drive_steps_in steps)
   where
-    with_turns : (found : Option ℕ) → IfSome found AreTurnsInRange
+    with_drive_steps : (found : Option ℕ) → IfSome found AreDriveStepsInRange
         → IfSome (option_map (λ steps. record { image = image; export = export; trace = trace; start = start; steps = steps }) found)
-        (λ (request : PredictRequest). AreTurnsInRange request.steps)
-    with_turns None within = tt
-    with_turns (Some turns) within = within
+        (λ (request : PredictRequest). AreDriveStepsInRange request.steps)
+    with_drive_steps None within = tt
+    with_drive_steps (Some steps) within = within
 predict_within _ _ = tt
 
 -- ---- requests
@@ -241,7 +241,7 @@ abbrev KeepsRules : Request → Type 0
 KeepsRules (gen request) = IsGenInRange request
 KeepsRules (interp request) = AreInRange request.steps
 KeepsRules (run request) = AreInRange request.steps
-KeepsRules (predict request) = AreTurnsInRange request.steps
+KeepsRules (predict request) = AreDriveStepsInRange request.steps
 KeepsRules _ = Unit {0}
 
 made_keeps : {A : Type 0} (made : A → Request) (P : A → Type 0) → ((a : A) → P a → KeepsRules (made a)) → (found : Option A) → IfSome found P → IfSome (option_map made found) KeepsRules
@@ -271,7 +271,7 @@ run_row arguments steps = made_keeps run (λ request. AreInRange request.steps) 
 
 predict_row : (arguments : List (List ℕ)) (steps : Option (List ℕ)) → IfSome (option_map predict (predict_of arguments steps)) KeepsRules
 predict_row arguments steps =
-    made_keeps predict (λ request. AreTurnsInRange request.steps) (λ request within. within) (predict_of arguments steps) (predict_within arguments steps)
+    made_keeps predict (λ request. AreDriveStepsInRange request.steps) (λ request within. within) (predict_of arguments steps) (predict_within arguments steps)
 
 abbrev AllKeep : List Command → Type 0
 AllKeep [] = ⊤
@@ -370,6 +370,6 @@ interp_in_range words request e = holds_of KeepsRules (λ request keep. kept_hol
 pub run_in_range : (words : List (List ℕ)) (request : RunRequest) → request_of words ≡ Some (run request) → AreInRange request.steps
 run_in_range words request e = holds_of KeepsRules (λ request keep. kept_holds _ request (λ differ apart. keep)) words (run request) e
 
--- and so are the turns of a `predict`
-pub predict_in_range : (words : List (List ℕ)) (request : PredictRequest) → request_of words ≡ Some (predict request) → AreTurnsInRange request.steps
+-- and so are the steps of a `predict`
+pub predict_in_range : (words : List (List ℕ)) (request : PredictRequest) → request_of words ≡ Some (predict request) → AreDriveStepsInRange request.steps
 predict_in_range words request e = holds_of KeepsRules (λ request keep. kept_holds _ request (λ differ apart. keep)) words (predict request) e

@@ -60,7 +60,7 @@ pub record TwinRequest : Type 0 where
   pub other_start : List ℕ
 
 -- `predict`: the image that is read, the name of an exported function, the trace file that is written, the start file that is read, and the
--- most turns
+-- most steps
 pub record PredictRequest : Type 0 where
   pub image : List ℕ
   pub export : List ℕ
@@ -254,9 +254,9 @@ abbrev pub steps_of : Option (List ℕ) → Option ℕ
 steps_of None = Some 1000000
 steps_of (Some value) = number_of_steps value
 
--- the most turns of a `predict`, by the value of `--steps`: at most as many as a trace file may have lines
-abbrev pub turns_of : Option (List ℕ) → Option ℕ
-turns_of value = option_and_then (λ turns. if nat_le turns (limit_of quantity.Directives) then Some turns else None) (steps_of value)
+-- the most steps of a `predict`, by the value of `--steps`: at most as many as a trace file may have lines
+abbrev pub drive_steps_of : Option (List ℕ) → Option ℕ
+drive_steps_of value = option_and_then (λ steps. if nat_le steps (limit_of quantity.Directives) then Some steps else None) (steps_of value)
 
 -- SEED of `gen`: one to twenty decimal digits, leading zeros among them, of a number below 2^64; so it has no sign
 abbrev pub seed_of : List ℕ → Option ℕ
@@ -279,10 +279,10 @@ pub record AreInRange (steps : ℕ) : Type 0 where
   pub some : 1 ≤ steps
   pub few : steps < 2 ^ 32
 
--- the most turns of a `predict` are in range: a trace file may have so many lines
-pub record AreTurnsInRange (turns : ℕ) : Type 0 where
-  pub some : 1 ≤ turns
-  pub few : turns ≤ limit_of quantity.Directives
+-- the most steps of a `predict` are in range: a trace file may have so many lines
+pub record AreDriveStepsInRange (steps : ℕ) : Type 0 where
+  pub some : 1 ≤ steps
+  pub few : steps ≤ limit_of quantity.Directives
 
 -- whether no word stands twice
 abbrev pub are_distinct : List (List ℕ) → Bool
@@ -352,10 +352,10 @@ twin_of (image ∷ export ∷ trace ∷ start ∷ other_start ∷ []) None =
     Some (record { image = image; export = export; trace = trace; start = start; other_start = other_start })
 twin_of arguments steps = None
 
--- what `predict` asks for: an image, an export, a trace file and a start file, and the most turns
+-- what `predict` asks for: an image, an export, a trace file and a start file, and the most steps
 abbrev pub predict_of : List (List ℕ) → Option (List ℕ) → Option PredictRequest
 predict_of (image ∷ export ∷ trace ∷ start ∷ []) steps =
-    option_map (λ steps. record { image = image; export = export; trace = trace; start = start; steps = steps }) (turns_of steps)
+    option_map (λ steps. record { image = image; export = export; trace = trace; start = start; steps = steps }) (drive_steps_of steps)
 predict_of arguments steps = None
 
 -- the side that a word names

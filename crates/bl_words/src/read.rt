@@ -10,7 +10,7 @@ use crate::modules::{are_named_apart, modules_of};
 use crate::numbers::{read_seed, read_size};
 use crate::options::value_of;
 use crate::roles::read_role;
-use crate::steps::{most_steps, most_turns};
+use crate::steps::{most_drive_steps, most_steps};
 use crate::words::{
     GenWords, HardenWords, InterpWords, JoinWords, LowerWords, PartWords, PredictWords, Request,
     RunWords, SpecWords, TwinWords, VerifyWords,
@@ -325,7 +325,7 @@ fn predict_words<'a>(arguments: &[&'a str], steps: Option<&'a str>) -> Option<Re
     let [image, export, trace, start] = arguments else {
         return None;
     };
-    let steps = most_turns(steps)?;
+    let steps = most_drive_steps(steps)?;
     Some(Request::Predict(PredictWords {
         image: *image,
         export: *export,

@@ -1,12 +1,12 @@
-//! The most steps of a run and the most turns of a drive, as words say them.
+//! The most steps of a run, and of a drive, as words say them.
 ghost use Rattle.std.specs.Prelude.{◌≡◌};
-ghost use Rattle.bl_words.specs.Requests.{number_of_steps, steps_of, turns_of};
+ghost use Rattle.bl_words.specs.Requests.{number_of_steps, steps_of, drive_steps_of};
 ghost use Rattle.bl_words.specs.Words.{text_in};
 
 use bl_base::Quantity;
 use bl_text::read_decimal;
 
-/// The most steps of an `interp` or a `run`, or the most turns of a `predict`, that doesn't say them.
+/// The most steps of an `interp`, a `run` or a `predict` that doesn't say them.
 const DEFAULT_STEPS: u64 = 1_000_000;
 
 /// The greatest number of steps that may be asked for.
@@ -22,12 +22,12 @@ pub fn most_steps(value: Option<&str>) -> Option<u64>
     }
 }
 
-/// The most turns of a `predict`, by the value of `--steps`: at most as many as a trace file may have lines.
-pub fn most_turns(value: Option<&str>) -> Option<u64>
-    ensures { result ≡ turns_of (text_in value.entry) }
+/// The most steps of a `predict`, by the value of `--steps`: at most as many as a trace file may have lines.
+pub fn most_drive_steps(value: Option<&str>) -> Option<u64>
+    ensures { result ≡ drive_steps_of (text_in value.entry) }
 {
     match most_steps(value) {
-        Some(turns) if turns <= Quantity::Directives.limit() => Some(turns),
+        Some(steps) if steps <= Quantity::Directives.limit() => Some(steps),
         _ => None,
     }
 }

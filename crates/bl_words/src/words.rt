@@ -135,7 +135,7 @@ pub struct PredictWords<'a> {
     pub trace: &'a str,
     /// The start file, which is read.
     pub start: &'a str,
-    /// The most turns that are taken, from 1 to as many as a trace file may have lines.
+    /// The most steps that are taken, from 1 to as many as a trace file may have lines.
     pub steps: u64,
 }
 

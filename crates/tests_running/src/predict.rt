@@ -97,7 +97,7 @@ const MISPREDICTED: Drive = Drive {
     last: "trapped out of bounds memory access\nmemory 0 pages 1\n",
 };
 
-/// Too few turns.
+/// Too few steps.
 const SPENT: Drive = Drive {
     image: &LOADS_IMAGE,
     start: "arg 0\n",
@@ -200,7 +200,7 @@ fn wrong_guesses_are_counted(rt: HostRuntime) -> Result<(), Fail> {
 }
 
 #[test]
-fn turns_can_be_too_few(rt: HostRuntime) -> Result<(), Fail> {
+fn steps_can_be_too_few(rt: HostRuntime) -> Result<(), Fail> {
     assert!(rt; is_driven(rt.alloc(), &SPENT)?);
     Ok(())
 }
@@ -211,7 +211,7 @@ fn a_ninth_line_pushes_the_first_one_out(rt: HostRuntime) -> Result<(), Fail> {
     Ok(())
 }
 
-/// Words that are no request: more turns than a trace file has lines, or none; a trace file that is the image or the start file; a count file; and a
+/// Words that are no request: more steps than a trace file has lines, or none; a trace file that is the image or the start file; a count file; and a
 /// word too few.
 static OTHERS: [&str; 6] = [
     "blade predict --steps 1000001 i m/f t s",
@@ -228,7 +228,7 @@ fn traces_are_files_of_their_own(rt: HostRuntime) -> Result<(), Fail> {
     Ok(())
 }
 
-/// Whether the most turns are taken as a number, and the image and the start file may be one word, and what is read is refused as `run` refuses it.
+/// Whether the most steps are taken as a number, and the image and the start file may be one word, and what is read is refused as `run` refuses it.
 fn are_refused(alloc: Global) -> Result<bool, NoMemory> {
     let mut shelf = shelf_of(alloc, &[("i", &ADD_ONE_IMAGE), ("s", b"arg\n")])?;
     Ok(

@@ -7,7 +7,7 @@ pub max_flow_of-requires-clause-in_range : goal.max_flow_of-requires-clause-in_r
 max_flow_of-requires-clause-in_range c = in_range nothing c.args.program.now c.args.laid.names c.ranges-2.ensures c.args.laid.network c.requires.network
 
 pub max_flow_of-requires-clause-bounded : goal.max_flow_of-requires-clause-bounded
-max_flow_of-requires-clause-bounded c = bounded nothing c.args.program.now c.args.laid.names c.ranges-2.ensures c.args.laid.network c.requires.network (λ x hot. absurd (false≢true hot))
+max_flow_of-requires-clause-bounded c = bounded nothing c.args.program.now c.args.laid.names c.ranges-2.ensures c.args.laid.network c.requires.network (λ x transient. absurd (false≢true transient))
 
 pub max_flow_of-requires-clause-total : goal.max_flow_of-requires-clause-total
 max_flow_of-requires-clause-total c = total nothing c.args.program.now c.args.laid.names c.ranges-2.ensures c.args.laid.network c.requires.network

@@ -55,7 +55,7 @@ node_weights-requires-clause-all c =
 pub start_nodes-requires-clause-has : goal.start_nodes-requires-clause-has
 start_nodes-requires-clause-has c =
     let count = c.len-commands.ensures ∙ ap (λ (p : ProgramParts). commands p) (c.parts.ensures.same ∙ c.program.ensures.same) in
-    var_nodes c.args.program.now c.args.graph.now c.requires.graph c.args.names.now c.requires.names c.ranges-2.ensures c.len-commands.result count c.args.hot.now c.requires.hot
+    var_nodes c.args.program.now c.args.graph.now c.requires.graph c.args.names.now c.requires.names c.ranges-2.ensures c.len-commands.result count c.args.transient.now c.requires.transient
 
 pub end_nodes-requires-clause-has : goal.end_nodes-requires-clause-has
 end_nodes-requires-clause-has c =
@@ -66,7 +66,7 @@ end_nodes-requires-clause-has c =
 pub end_nodes-requires-clause-more : goal.end_nodes-requires-clause-more
 end_nodes-requires-clause-more c =
     let count = c.len-commands.ensures ∙ ap (λ (p : ProgramParts). commands p) (c.parts.ensures.same ∙ c.program.ensures.same) in
-    var_nodes c.args.program.now c.args.graph.now c.requires.graph c.args.names.now c.requires.names c.ranges-2.ensures c.len-commands.result count c.args.firm.now c.requires.firm
+    var_nodes c.args.program.now c.args.graph.now c.requires.graph c.args.names.now c.requires.names c.ranges-2.ensures c.len-commands.result count c.args.stable.now c.requires.stable
 
 pub returns : goal.returns
 returns c =
@@ -74,14 +74,14 @@ returns c =
     let count = c.len-commands.ensures ∙ ap (λ (p : ProgramParts). commands p) (c.parts.ensures.same ∙ c.program.ensures.same) in
     let reads = ap (map (read_arc c.args.names.now n)) c.as_slice-2.ensures in
     let writes = ap (map (write_arc c.args.names.now n)) c.as_slice.ensures in
-    made_network c.args.program.now c.args.graph.now c.requires.graph c.args.names.now c.requires.names c.args.hot.now c.args.firm.now c.requires.hot c.requires.firm
+    made_network c.args.program.now c.args.graph.now c.requires.graph c.args.names.now c.requires.names c.args.transient.now c.args.stable.now c.requires.transient c.requires.stable
     n c.of.result c.of-2.result c.of-3.result c.of-4.result count
     (ap length c.of.ensures ∙ c.in_ok-weights.ensures.places ∙ ap (λ k. n + k) c.len.ensures)
     (λ v. ap (λ l. Rattle.bl_cut.specs.Network.noted l v) c.of.ensures ∙ c.in_ok-weights.ensures.weights v)
     (c.of-2.ensures ∙ (c.in_ok-push_reads.ensures ∙ (ap (λ l. l ++ map (read_arc c.args.names.now n) c.as_slice-2.result.now) (c.in_ok-push_writes.ensures ∙ ap (λ l. l ++ map (write_arc c.args.names.now n) c.as_slice.result.now) c.in_ok-arcs.ensures.items)
     ∙ (ap (λ l. map (write_arc c.args.names.now n) c.as_slice.result.now ++ l) reads ∙ ap (λ l. l ++ map (read_arc c.args.names.now n) c.args.graph.now.reads) writes))))
-    (subst (λ l. (s : ℕ) → Contains l s ↔ Begins c.args.names.now n c.args.graph.now c.args.hot.now s) (sym c.of-3.ensures) c.in_ok-starts.ensures)
-    (c.of-4.ensures ∙ (c.in_ok-ends.ensures ∙ ap (λ l. map (sink_node c.args.names.now n) l ++ map (var_node c.args.names.now n) c.args.firm.now) c.as_slice-4.ensures))
+    (subst (λ l. (s : ℕ) → Contains l s ↔ Begins c.args.names.now n c.args.graph.now c.args.transient.now s) (sym c.of-3.ensures) c.in_ok-starts.ensures)
+    (c.of-4.ensures ∙ (c.in_ok-ends.ensures ∙ ap (λ l. map (sink_node c.args.names.now n) l ++ map (var_node c.args.names.now n) c.args.stable.now) c.as_slice-4.ensures))
 
 pub start_nodes-requires-clause-reads : goal.start_nodes-requires-clause-reads
 start_nodes-requires-clause-reads c = read_names c.args.program.now c.args.graph.now c.requires.graph c.args.names.now c.requires.names

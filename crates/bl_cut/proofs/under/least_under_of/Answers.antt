@@ -10,7 +10,7 @@ use Rattle.bl_cut.proofs.under.least_under_of.Goals.{After-len-commands, In_ok-n
 
 net_is : (c : In_ok-network) → IsNetworkUnder (asked_of c.args.asked.now) c.args.program.now c.in_ok-names.names c.in_ok-network.network
 net_is c =
-    network_of c.args.program.now c.in_ok-names.names c.as_slice-hot.result.now c.as_slice-firm.result.now c.args.asked.now c.in_ok-network.network c.as_slice-hot.ensures c.as_slice-firm.ensures c.in_ok-network.ensures
+    network_of c.args.program.now c.in_ok-names.names c.as_slice-transient.result.now c.as_slice-stable.result.now c.args.asked.now c.in_ok-network.network c.as_slice-transient.ensures c.as_slice-stable.ensures c.in_ok-network.ensures
 
 count_is : (c : After-len-commands) → c.len-commands.result ≡ commands c.args.program.now
 count_is c = c.len-commands.ensures ∙ ap (λ (p : ProgramParts). commands p) (c.parts.ensures.same ∙ c.program.ensures.same)

@@ -20,7 +20,7 @@ least_under_of-requires-clause-sinks c =
     let none =
     subst (λ o. MatchOption o ((position : ℕ) → IsGiven (asked_of c.in_ok-asked.asked) c.args.program.now position → ⊥) (λ position. IsFirstGiven (asked_of c.in_ok-asked.asked) c.args.program.now position.0))
     c.in_default.is c.in_ok-first.ensures in
-    λ position x reads h. none position (x, reads, in_asked c.in_ok-asked.asked.hot x h)
+    λ position x reads h. none position (x, reads, in_asked c.in_ok-asked.asked.transient x h)
 
 pub returns-clause-least : goal.returns-clause-least
 returns-clause-least c =

@@ -23,24 +23,24 @@ numbered-requires-2-clause-has c =
     (sinks_named c.args.program.now c.args.graph.now c.args.names.now c.requires.graph c.requires.names)
 
 pub numbers_of-requires-clause-has : goal.numbers_of-requires-clause-has
-numbers_of-requires-clause-has c = subst (λ l. All (λ x. Contains c.args.names.now x) l) (sym c.as_slice-3.ensures) c.requires.firm
+numbers_of-requires-clause-has c = subst (λ l. All (λ x. Contains c.args.names.now x) l) (sym c.as_slice-3.ensures) c.requires.stable
 
 pub len-requires : goal.len-requires
 len-requires c = let lt = few_names c.args.program.now c.args.names.now c.ranges-2.ensures c.requires.names in omega arith
 
-numbers_are : (c : After-deref) → c.deref.result.now ≡ map (place_of c.args.names.now) c.args.asked.now.firm
+numbers_are : (c : After-deref) → c.deref.result.now ≡ map (place_of c.args.names.now) c.args.asked.now.stable
 numbers_are c = c.deref.ensures.value ∙ c.in_ok-numbers.ensures ∙ ap (map (place_of c.args.names.now)) c.as_slice-3.ensures
 
 pub marked-requires : goal.marked-requires
-marked-requires c = rw (c.len.ensures, numbers_are c) (numbers_within c.args.names.now c.requires.names.rise c.args.asked.now.firm c.requires.firm)
+marked-requires c = rw (c.len.ensures, numbers_are c) (numbers_within c.args.names.now c.requires.names.rise c.args.asked.now.stable c.requires.stable)
 
 pub returns : goal.returns
 returns c =
     let names : List ℕ = c.args.names.now in
-    let marks = rw (numbers_are (goal.at.returns c).After-deref) at c.in_ok-firm.ensures.exact in
-    let exact : (i x : ℕ) → slice_get names i ≡ Some x → IsTrue (is_in c.in_ok-firm.firm.items i) ↔ IsTrue ((asked_of c.args.asked.now).firm x) =
+    let marks = rw (numbers_are (goal.at.returns c).After-deref) at c.in_ok-stable.ensures.exact in
+    let exact : (i x : ℕ) → slice_get names i ≡ Some x → IsTrue (is_in c.in_ok-stable.stable.items i) ↔ IsTrue ((asked_of c.args.asked.now).stable x) =
     λ i x e.
-    let asked = numbered_asked names c.requires.names.rise c.args.asked.now.firm c.requires.firm i x e in
+    let asked = numbered_asked names c.requires.names.rise c.args.asked.now.stable c.requires.stable i x e in
     (λ h. asked.0 ((marks i).0 h), λ h. (marks i).1 (asked.1 h)) in
     rw (
       c.in_ok-push_loads.ensures,
@@ -61,4 +61,4 @@ returns c =
       append_assoc,
     )
     (are_bars (asked_of c.args.asked.now) c.args.program.now c.args.graph.now c.requires.graph names c.requires.names (fin.contains c.args.protects.now) c.in_ok-written.written.items c.in_ok-written.ensures
-    c.in_ok-firm.firm.items exact)
+    c.in_ok-stable.stable.items exact)

@@ -23,4 +23,4 @@ pub returns : goal.returns
 returns c =
     none_passes (asked_of c.args.asked.now) c.args.program.now c.in_ok-names.names (fin.contains c.args.protects.now) c.in_ok-uses.uses.items c.in_ok-uses.ensures
     c.in_ok-marks.marks.items c.in_ok-marks.ensures.exact
-    (λ x hot firm. c.requires.apart x (asked_in c.args.asked.now.hot x hot) (asked_in c.args.asked.now.firm x firm)) (rw (c.deref.ensures.value, c.deref-2.ensures.value) at c.in-None.ensures)
+    (λ x transient stable. c.requires.apart x (asked_in c.args.asked.now.transient x transient) (asked_in c.args.asked.now.stable x stable)) (rw (c.deref.ensures.value, c.deref-2.ensures.value) at c.in-None.ensures)

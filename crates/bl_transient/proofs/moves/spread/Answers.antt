@@ -11,7 +11,7 @@ use Rattle.bl_transient.proofs.moves.spread.Goals.{After-deref-2}
 pub rows_of-requires : goal.rows_of-requires
 rows_of-requires c =
     subst (λ l. All (λ (m : Arc). m.from < c.args.count) l) (sym (c.deref.ensures.value ∙ c.in_ok-moves.ensures))
-    (moves_within c.args.written.now c.args.hot.now c.args.loads.now c.args.reads.now c.args.count c.requires.reads)
+    (moves_within c.args.written.now c.args.transient.now c.args.loads.now c.args.reads.now c.args.count c.requires.reads)
 
 hold : (c : After-deref-2) → RowsOf (moves_from c.args.written.now c.args.reads.now) (rows_in c.deref-2.result.now)
 hold c =
@@ -21,17 +21,17 @@ hold c =
 pub reached-requires-clause-within : goal.reached-requires-clause-within
 reached-requires-clause-within c =
     subst (λ n. (u v : ℕ) → Contains (row_at (rows_in c.deref-2.result.now) u) v → v < n) (sym (ap length c.deref-2.ensures.value ∙ c.in_ok-rows.ensures.places))
-    (rows_within c.args.written.now c.args.hot.now c.args.loads.now c.args.reads.now c.args.count c.requires.written (rows_in c.deref-2.result.now)
+    (rows_within c.args.written.now c.args.transient.now c.args.loads.now c.args.reads.now c.args.count c.requires.written (rows_in c.deref-2.result.now)
     (hold (goal.at.reached-requires-clause-within c).After-deref-2))
 
 pub reached-requires-clause-roots_in : goal.reached-requires-clause-roots_in
 reached-requires-clause-roots_in c =
     subst (λ n. All (λ v. v < n) c.deref-3.result.now) (sym (ap length c.deref-2.ensures.value ∙ c.in_ok-rows.ensures.places))
     (subst (λ l. All (λ v. v < c.args.count) l) (sym (c.deref-3.ensures.value ∙ c.in_ok-roots.ensures))
-    (roots_within c.args.written.now c.args.hot.now c.args.loads.now c.args.reads.now c.args.count c.requires.written c.requires.hot))
+    (roots_within c.args.written.now c.args.transient.now c.args.loads.now c.args.reads.now c.args.count c.requires.written c.requires.transient))
 
 pub returns-clause-exact : goal.returns-clause-exact
 returns-clause-exact c =
-    spread_are c.args.written.now c.args.hot.now c.args.loads.now c.args.reads.now (rows_in c.deref-2.result.now) (hold (goal.at.returns-clause-exact c).After-deref-2)
+    spread_are c.args.written.now c.args.transient.now c.args.loads.now c.args.reads.now (rows_in c.deref-2.result.now) (hold (goal.at.returns-clause-exact c).After-deref-2)
     c.in_ok-marks.marks.items
     (subst (λ l. (x : ℕ) → IsTrue (is_in c.in_ok-marks.marks.items x) ↔ Reached (rows_in c.deref-2.result.now) l x) (c.deref-3.ensures.value ∙ c.in_ok-roots.ensures) c.in_ok-marks.ensures.exact)

@@ -17,16 +17,16 @@ numbered-requires-clause-has c =
 pub len-requires : goal.len-requires
 len-requires c = let lt = few_names c.args.program.now c.args.names.now c.ranges-2.ensures c.requires.names in omega arith
 
-hots_are : (c : After-deref-3) → c.deref.result.now ≡ map (place_of c.args.names.now) c.args.asked.now.hot
-hots_are c = c.deref.ensures.value ∙ c.in_ok-hot.ensures ∙ ap (map (place_of c.args.names.now)) c.as_slice-2.ensures
+transients_are : (c : After-deref-3) → c.deref.result.now ≡ map (place_of c.args.names.now) c.args.asked.now.transient
+transients_are c = c.deref.ensures.value ∙ c.in_ok-transient.ensures ∙ ap (map (place_of c.args.names.now)) c.as_slice-2.ensures
 
 reads_are : (c : After-deref-3) → c.deref-2.result.now ≡ map (numbered c.args.names.now) c.args.graph.now.reads
 reads_are c = c.deref-2.ensures.value ∙ c.in_ok-reads.ensures ∙ ap (map (numbered c.args.names.now)) c.as_slice.ensures
 
-pub spread-requires-clause-hot : goal.spread-requires-clause-hot
-spread-requires-clause-hot c =
-    rw (c.len.ensures, hots_are (goal.at.spread-requires-clause-hot c).After-deref-3)
-    (numbers_within c.args.names.now c.requires.names.rise c.args.asked.now.hot c.requires.hot)
+pub spread-requires-clause-transient : goal.spread-requires-clause-transient
+spread-requires-clause-transient c =
+    rw (c.len.ensures, transients_are (goal.at.spread-requires-clause-transient c).After-deref-3)
+    (numbers_within c.args.names.now c.requires.names.rise c.args.asked.now.transient c.requires.transient)
 
 pub spread-requires-clause-reads : goal.spread-requires-clause-reads
 spread-requires-clause-reads c =
@@ -42,6 +42,6 @@ pub returns-clause-exact : goal.returns-clause-exact
 returns-clause-exact c =
     let before = (goal.at.returns-clause-exact c).After-deref-3 in
     marks_are c.args.program.now c.args.graph.now c.requires.graph c.args.names.now c.requires.names (fin.contains c.args.protects.now) c.in_ok-written.written.items c.in_ok-written.ensures
-    (asked_of c.args.asked.now) (map (place_of c.args.names.now) c.args.asked.now.hot)
-    (asked_back c.args.names.now c.requires.names.rise c.args.asked.now.hot c.requires.hot) (asked_there c.args.names.now c.requires.names.rise c.args.asked.now.hot c.requires.hot)
-    c.in_ok-marks.marks.items (rw (hots_are before, reads_are before, c.deref-3.ensures.value, c.as_slice-loads.ensures) at c.in_ok-marks.ensures.exact)
+    (asked_of c.args.asked.now) (map (place_of c.args.names.now) c.args.asked.now.transient)
+    (asked_back c.args.names.now c.requires.names.rise c.args.asked.now.transient c.requires.transient) (asked_there c.args.names.now c.requires.names.rise c.args.asked.now.transient c.requires.transient)
+    c.in_ok-marks.marks.items (rw (transients_are before, reads_are before, c.deref-3.ensures.value, c.as_slice-loads.ensures) at c.in_ok-marks.ensures.exact)

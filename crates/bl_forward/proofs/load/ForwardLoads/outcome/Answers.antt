@@ -1,7 +1,7 @@
 use Rattle.bl_rob.specs.CallResults.{shown}
 use Rattle.bl_rob.proofs.ReachabilityLemmas.{whole_memories}
 use Rattle.bl_forward.specs.ForwardMachines.{forward_step}
-use Rattle.bl_forward.proofs.TurnLemmas.{forward_keeps}
+use Rattle.bl_forward.proofs.ExecutionLemmas.{forward_keeps}
 use Rattle.bl_forward.proofs.load.ForwardLoads.outcome.Goals as goal
 
 pub outcome-requires-clause-whole : goal.outcome-requires-clause-whole

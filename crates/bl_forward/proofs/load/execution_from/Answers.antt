@@ -1,6 +1,6 @@
 use Rattle.std.proofs.Common.{◌<◌, ◌*◌, ◌^◌, ◌∙◌, Some, ap, subst, sym}
-use Rattle.bl_forward.proofs.TurnLemmas.{stored_within}
-use Rattle.bl_forward.proofs.load.turn_from.Goals as goal
+use Rattle.bl_forward.proofs.ExecutionLemmas.{stored_within}
+use Rattle.bl_forward.proofs.load.execution_from.Goals as goal
 
 pub extend-value-requires : goal.extend-value-requires
 extend-value-requires c =

@@ -4,7 +4,7 @@ use Rattle.bl_rob.specs.Machines.{State, at_position}
 use Rattle.bl_rob.specs.declared.entry.Work.{Work}
 use Rattle.bl_rob.specs.declared.entry.Work.TheVariants.{Guard}
 use Rattle.bl_rob.proofs.StepLemmas.{cut_back, guard_at, not_guard, read_cut}
-use Rattle.bl_rob.proofs.machine.Machine.turn.Goals as goal
+use Rattle.bl_rob.proofs.machine.Machine.roll_back.Goals as goal
 
 pub returns-in-Guard : goal.returns-in-Guard
 returns-in-Guard c =

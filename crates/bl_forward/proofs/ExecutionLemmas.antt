@@ -28,11 +28,11 @@ use Rattle.bl_rob.proofs.PolicyLemmas.{told_enabled, told_steps}
 use Rattle.bl_rob.proofs.ReachabilityLemmas.{KeepAll}
 use Rattle.bl_rob.proofs.BufferRoom.{Fits, acted_fits, comes_fit, executes, step_fits, within}
 use Rattle.bl_sct.proofs.Loads.{opened_by}
-use Rattle.bl_forward.specs.ForwardMachines.{exec_at, found_behind, found_from, found_in, forward_step, plainly, stepped, supplied, turned, turned_at, turned_where}
+use Rattle.bl_forward.specs.ForwardMachines.{exec_at, found_behind, found_from, found_in, forward_step, plainly, stepped, supplied, execution_of, execution_at, execution_where}
 use Rattle.bl_forward.specs.declared.find.Found.{Found}
 use Rattle.bl_forward.specs.declared.find.Found.TheVariants.{Memory, Stored, Blocked}
-use Rattle.bl_forward.specs.declared.load.Turn.{Turn}
-use Rattle.bl_forward.specs.declared.load.Turn.TheVariants as turn
+use Rattle.bl_forward.specs.declared.load.Execution.{Execution}
+use Rattle.bl_forward.specs.declared.load.Execution.TheVariants as execution
 use Rattle.bl_forward.specs.declared.seen.Seen.{Seen}
 use Rattle.bl_forward.specs.declared.seen.Seen.TheVariants.{Plain as Shown}
 use Rattle.bl_forward.proofs.ForwardInvariant.{forward_ok, plainly_holds}
@@ -43,62 +43,62 @@ module _ (most : ℕ) (program : Program) (s : State) (n : ℕ) where
   abbrev plain : Option (State × Seen)
   plain = plainly (directive_step most program s (Exec n))
 
-  plain_at : (o : Option Entry) → slice_get s.buffer n ≡ o → turned_where program s n o ≡ turn.Plain → exec_at most program s n o ≡ plainly (directive_step most program s (Exec n))
+  plain_at : (o : Option Entry) → slice_get s.buffer n ≡ o → execution_where program s n o ≡ execution.Plain → exec_at most program s n o ≡ plainly (directive_step most program s (Exec n))
   plain_at None is e = sym (ap (λ o. plainly (exec_entry program n s o)) is)
   plain_at (Some entry) is e = ap (stepped plain s n entry.position) e
 
-  pub plain_turn : turned_at program s n ≡ turn.Plain → forward_step most program s (Exec n) ≡ plainly (directive_step most program s (Exec n))
-  plain_turn e = plain_at (slice_get s.buffer n) refl e
+  pub plain_execution : execution_at program s n ≡ execution.Plain → forward_step most program s (Exec n) ≡ plainly (directive_step most program s (Exec n))
+  plain_execution e = plain_at (slice_get s.buffer n) refl e
 
-  waits_at : (o : Option Entry) → turned_where program s n o ≡ turn.Waits → exec_at most program s n o ≡ None
+  waits_at : (o : Option Entry) → execution_where program s n o ≡ execution.Waits → exec_at most program s n o ≡ None
   waits_at None e = refl
   waits_at (Some entry) e = ap (stepped plain s n entry.position) e
 
-  pub waits_turn : turned_at program s n ≡ turn.Waits → forward_step most program s (Exec n) ≡ None
-  waits_turn e = waits_at (slice_get s.buffer n) e
+  pub waits_execution : execution_at program s n ≡ execution.Waits → forward_step most program s (Exec n) ≡ None
+  waits_execution e = waits_at (slice_get s.buffer n) e
 
   module _ (work : Work) (seen : Seen) where
-    fills_at : (o : Option Entry) → turned_where program s n o ≡ turn.Fills work seen
+    fills_at : (o : Option Entry) → execution_where program s n o ≡ execution.Fills work seen
         → (entry : Entry) × (o ≡ Some entry) × (exec_at most program s n o ≡ Some (become n entry.position work s, seen))
     fills_at None e = cc
     fills_at (Some entry) e = (entry, refl, ap (stepped plain s n entry.position) e)
 
-    pub fills_turn : turned_at program s n ≡ turn.Fills work seen
+    pub fills_execution : execution_at program s n ≡ execution.Fills work seen
         → (entry : Entry) × (slice_get s.buffer n ≡ Some entry) × (forward_step most program s (Exec n) ≡ Some (become n entry.position work s, seen))
-    fills_turn e = fills_at (slice_get s.buffer n) e
+    fills_execution e = fills_at (slice_get s.buffer n) e
 
-    pub fills_within : turned_at program s n ≡ turn.Fills work seen → n < length s.buffer
-    fills_within e = let at = fills_turn e in within most s.buffer n at.0 at.1
+    pub fills_within : execution_at program s n ≡ execution.Fills work seen → n < length s.buffer
+    fills_within e = let at = fills_execution e in within most s.buffer n at.0 at.1
 
     -- the machine with that entry's new work
-    pub filled_step : (new : State) → turned_at program s n ≡ turn.Fills work seen
+    pub filled_step : (new : State) → execution_at program s n ≡ execution.Fills work seen
         → ((entry : Entry) → slice_get s.buffer n ≡ Some entry → new ≡ become n entry.position work s) → forward_step most program s (Exec n) ≡ Some (new, seen)
-    filled_step new e becomes = let at = fills_turn e in at.2 ∙ ap (λ t. Some (t, seen)) (sym (becomes at.0 at.1))
+    filled_step new e becomes = let at = fills_execution e in at.2 ∙ ap (λ t. Some (t, seen)) (sym (becomes at.0 at.1))
 
 -- ---- what the buffer machine executes
 
 pub plain_exec : (most : ℕ) (program : Program) (old new : State) (n : ℕ) (answer : Option Observation) (r : Result Observation StepError) (result : Result Seen StepError)
-    → turned_at program old n ≡ turn.Plain → Executes program n old answer new → r ≡ ok_or answer NotEnabled → result ≡ answer_as Shown r
+    → execution_at program old n ≡ execution.Plain → Executes program n old answer new → r ≡ ok_or answer NotEnabled → result ≡ answer_as Shown r
     → StepsBy forward_step most program (Exec n) old result new
 plain_exec most program old new n answer r result e executed is =
-    told_steps Shown forward_step most program (Exec n) old new r result (plain_turn most program old n e) (executes most program old new n answer r executed is)
+    told_steps Shown forward_step most program (Exec n) old new r result (plain_execution most program old n e) (executes most program old new n answer r executed is)
 
-pub plain_enabled : (most : ℕ) (program : Program) (s : State) (n : ℕ) (b : Bool) → turned_at program s n ≡ turn.Plain
+pub plain_enabled : (most : ℕ) (program : Program) (s : State) (n : ℕ) (b : Bool) → execution_at program s n ≡ execution.Plain
     → b ≡ is_some (directive_step most program s (Exec n)) → b ≡ is_enabled_by forward_step most program s (Exec n)
-plain_enabled most program s n b e = told_enabled Shown forward_step most program (Exec n) s b (plain_turn most program s n e)
+plain_enabled most program s n b e = told_enabled Shown forward_step most program (Exec n) s b (plain_execution most program s n e)
 
 -- ---- the room of the buffer
 
 module _ (most : ℕ) (program : Program) (s : State) (n : ℕ) (fits : Fits most s) where
-  turn_fits : (entry : Entry) (t : Turn) → slice_get s.buffer n ≡ Some entry
+  execution_fits : (entry : Entry) (t : Execution) → slice_get s.buffer n ≡ Some entry
       → Holds (Fits most) (stepped (plainly (directive_step most program s (Exec n))) s n entry.position t)
-  turn_fits entry turn.Plain is = plainly_holds (Fits most) (directive_step most program s (Exec n)) (step_fits most program s (Exec n) fits)
-  turn_fits entry turn.Waits is = tt
-  turn_fits entry (turn.Fills work seen) is = acted_fits most s n entry (Becomes work Nothing) (within most s.buffer n entry is) fits
+  execution_fits entry execution.Plain is = plainly_holds (Fits most) (directive_step most program s (Exec n)) (step_fits most program s (Exec n) fits)
+  execution_fits entry execution.Waits is = tt
+  execution_fits entry (execution.Fills work seen) is = acted_fits most s n entry (Becomes work Nothing) (within most s.buffer n entry is) fits
 
   exec_fits : (o : Option Entry) → slice_get s.buffer n ≡ o → Holds (Fits most) (exec_at most program s n o)
   exec_fits None is = tt
-  exec_fits (Some entry) is = turn_fits entry (turned program s (take n s.buffer) entry.work) is
+  exec_fits (Some entry) is = execution_fits entry (execution_of program s (take n s.buffer) entry.work) is
 
 -- an entry that is executed leaves no more entries
 pub exec_few : (program : Program) (n : ℕ) (old new : State) (result : Result Seen StepError) → ((most : ℕ) → StepsBy forward_step most program (Exec n) old result new)
