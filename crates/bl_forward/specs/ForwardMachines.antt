@@ -17,7 +17,7 @@ use Rattle.bl_rob.specs.declared.directive.Observation.TheVariants as observed
 use Rattle.bl_rob.specs.declared.entry.Entry.{Entry}
 use Rattle.bl_rob.specs.declared.entry.Register.{Register}
 use Rattle.bl_rob.specs.declared.entry.Work.{Work}
-use Rattle.bl_rob.specs.declared.entry.Work.TheVariants.{Nop, Assign, Load, Held, Done, Store, Ready, Guard, Fail}
+use Rattle.bl_rob.specs.declared.entry.Work.TheVariants.{Load, Ready}
 use Rattle.bl_forward.specs.declared.find.Found.{Found}
 use Rattle.bl_forward.specs.declared.find.Found.TheVariants.{Memory, Stored, Blocked}
 use Rattle.bl_forward.specs.declared.load.Execution.{Execution}
@@ -38,16 +38,9 @@ supplies from width at count number found =
 
 -- behind an entry
 abbrev pub supplied : Program → ℕ → ℕ → Work → Found → Found
-supplied program from width Nop found = found
-supplied program from width (Assign protect op to a b c) found = found
-supplied program from width (Load protect kind memory to offset address) found = found
-supplied program from width (Held to value) found = found
-supplied program from width (Done to value) found = found
-supplied program from width (Store kind memory offset address value) found = found
 supplied program from width (Ready kind memory offset address value) found =
     supplies from width (effective program memory offset address) (width_of kind) (narrowed kind value) found
-supplied program from width (Guard cond predicted other chain) found = found
-supplied program from width (Fail kind) found = found
+supplied program from width _ found = found
 
 -- behind entries, from the oldest on
 abbrev pub found_from : Program → ℕ → ℕ → List Entry → Found → Found
@@ -79,16 +72,9 @@ execution_from program space entries protect kind memory to offset (Some address
 
 -- what work behind entries comes to: all but a pending load does what it does in the buffer machine
 abbrev pub execution_of : Program → State → List Entry → Work → Execution
-execution_of program s entries Nop = execution.Plain
-execution_of program s entries (Assign protect op to a b c) = execution.Plain
 execution_of program s entries (Load protect kind memory to offset address) =
     execution_from program s.space entries protect kind memory to offset (visible_of s.registers entries address)
-execution_of program s entries (Held to value) = execution.Plain
-execution_of program s entries (Done to value) = execution.Plain
-execution_of program s entries (Store kind memory offset address value) = execution.Plain
-execution_of program s entries (Ready kind memory offset address value) = execution.Plain
-execution_of program s entries (Guard cond predicted other chain) = execution.Plain
-execution_of program s entries (Fail kind) = execution.Plain
+execution_of program s entries _ = execution.Plain
 
 -- ---- directives
 

@@ -7,7 +7,7 @@ use Rattle.bl_cmd.specs.Steps.{effective}
 use Rattle.bl_cmd.specs.declared.definitions.ProgramParts.{ProgramParts as Program}
 use Rattle.bl_rob.specs.declared.entry.Entry.{Entry}
 use Rattle.bl_rob.specs.declared.entry.Work.{Work}
-use Rattle.bl_rob.specs.declared.entry.Work.TheVariants.{Nop, Assign, Load, Held, Done, Store, Ready, Guard, Fail}
+use Rattle.bl_rob.specs.declared.entry.Work.TheVariants.{Ready}
 use Rattle.bl_forward.specs.ForwardMachines.{meets}
 use Rattle.bl_forward.specs.declared.find.Found.{Found}
 use Rattle.bl_forward.specs.declared.find.Found.TheVariants.{Memory, Stored, Blocked}
@@ -19,16 +19,9 @@ pub record Waiting : Type 0 where
   pub number : ℕ
 
 abbrev pub waiting : Program → Work → Option Waiting
-waiting program Nop = None
-waiting program (Assign protect op to a b c) = None
-waiting program (Load protect kind memory to offset address) = None
-waiting program (Held to value) = None
-waiting program (Done to value) = None
-waiting program (Store kind memory offset address value) = None
 waiting program (Ready kind memory offset address value) =
     Some (record { at = effective program memory offset address; count = width_of kind; number = narrowed kind value })
-waiting program (Guard cond predicted other chain) = None
-waiting program (Fail kind) = None
+waiting program _ = None
 
 -- it is one that meets a range of so many bytes from a place on
 abbrev pub does_meet : ℕ → ℕ → Option Waiting → Bool

@@ -62,14 +62,7 @@ fn supplied(layout: &Layout, work: &Work, from: usize, width: usize, found: Foun
                 found,
             )
         }
-        Work::Nop
-        | Work::Assign { .. }
-        | Work::Load { .. }
-        | Work::Held { .. }
-        | Work::Done { .. }
-        | Work::Store { .. }
-        | Work::Guard { .. }
-        | Work::Fail(_) => found,
+        _ => found,
     }
 }
 

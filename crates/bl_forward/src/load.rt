@@ -60,14 +60,7 @@ pub fn execution_at(machine: &Machine, layout: &Layout, n: usize) -> Execution
                 address,
             )
         }
-        Work::Nop
-        | Work::Assign { .. }
-        | Work::Held { .. }
-        | Work::Done { .. }
-        | Work::Store { .. }
-        | Work::Ready { .. }
-        | Work::Guard { .. }
-        | Work::Fail(_) => Execution::Plain,
+        _ => Execution::Plain,
     }
 }
 

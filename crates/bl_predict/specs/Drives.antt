@@ -10,7 +10,7 @@ use Rattle.bl_rob.specs.declared.directive.Directive.{Directive}
 use Rattle.bl_rob.specs.declared.directive.Directive.TheVariants.{Fetch, Predict, Exec, Retire}
 use Rattle.bl_rob.specs.declared.directive.End.{End}
 use Rattle.bl_rob.specs.declared.directive.Observation.{Observation}
-use Rattle.bl_rob.specs.declared.directive.Observation.TheVariants.{Nothing, Read, Write, Divide, Rollback, Fail}
+use Rattle.bl_rob.specs.declared.directive.Observation.TheVariants.{Read, Write, Rollback}
 use Rattle.bl_rob.specs.declared.directive.Kind.{Kind}
 use Rattle.bl_rob.specs.declared.directive.Kind.TheVariants as kind
 use Rattle.bl_rob.specs.declared.entry.Entry.{Entry}
@@ -56,11 +56,7 @@ guessed counters s = guess_at counters (position_of s.front)
 
 abbrev pub is_read : Observation → Bool
 is_read (Read address guards) = true
-is_read Nothing = false
-is_read (Write address guards) = false
-is_read (Divide a b guards) = false
-is_read (Rollback n) = false
-is_read Fail = false
+is_read _ = false
 
 -- a step was observed as a read
 abbrev pub shows_read : Option (State × Observation) → Bool
@@ -97,11 +93,7 @@ counted false count = count - 1
 
 abbrev pub is_rollback : Observation → Bool
 is_rollback (Rollback n) = true
-is_rollback Nothing = false
-is_rollback (Read address guards) = false
-is_rollback (Write address guards) = false
-is_rollback (Divide a b guards) = false
-is_rollback Fail = false
+is_rollback _ = false
 
 -- the guess was right where nothing was rolled back
 abbrev pub judged : Bool → Bool → Bool
@@ -115,21 +107,12 @@ guard_at (Some entry) = by entry.work
   where
     by : Work → Option (ℕ × Bool)
     by (work.Guard cond predicted other chain) = Some (entry.position % 1024, predicted)
-    by work.Nop = None
-    by (work.Assign protect op to a b c) = None
-    by (work.Load protect kind memory to offset address) = None
-    by (work.Held to value) = None
-    by (work.Done to value) = None
-    by (work.Store kind memory offset address value) = None
-    by (work.Ready kind memory offset address value) = None
-    by (work.Fail kind) = None
+    by _ = None
 
 -- the same of the guard that a directive executes
 abbrev pub guard_of : State → Directive → Option (ℕ × Bool)
 guard_of s (Exec n) = guard_at (slice_get s.buffer n)
-guard_of s Fetch = None
-guard_of s (Predict predicted) = None
-guard_of s Retire = None
+guard_of s _ = None
 
 -- the counters behind the execution of a guard
 abbrev pub moved : List ℕ → Observation → Option (ℕ × Bool) → List ℕ
@@ -156,9 +139,7 @@ abbrev pub after_observation : Observation → DriveState → DriveState
 after_observation (Read address guards) d = touched address d
 after_observation (Write address guards) d = touched address d
 after_observation (Rollback n) d = record d { rollbacks = d.rollbacks + 1 }
-after_observation Nothing d = d
-after_observation (Divide a b guards) d = d
-after_observation Fail d = d
+after_observation _ d = d
 
 abbrev pub stepped : DriveState → Directive → Option (State × Observation) → DriveState
 stepped d directive None = d

@@ -15,14 +15,10 @@ use Rattle.bl_rob.specs.declared.steps.Effect.TheVariants.{Nothing, Write, Store
 -- what an entry does when it is retired, where it can be
 abbrev pub effect_of : Work → Option Effect
 effect_of work.Nop = Some Nothing
-effect_of (work.Assign protect op to a b c) = None
-effect_of (work.Load protect kind memory to offset address) = None
-effect_of (work.Held to value) = None
 effect_of (work.Done to value) = Some (Write to value)
-effect_of (work.Store kind memory offset address value) = None
 effect_of (work.Ready kind memory offset address value) = Some (Store kind memory offset address value)
-effect_of (work.Guard cond predicted other chain) = None
 effect_of (work.Fail kind) = Some (Fail kind)
+effect_of _ = None
 
 -- what the oldest entry does
 abbrev pub first_effect : List Entry → Option Effect

@@ -7,19 +7,15 @@ use Rattle.bl_rob.specs.Machines.{is_at}
 use Rattle.bl_rob.specs.declared.entry.Entry.{Entry}
 use Rattle.bl_rob.specs.declared.entry.Register.{Register}
 use Rattle.bl_rob.specs.declared.entry.Work.{Work}
-use Rattle.bl_rob.specs.declared.entry.Work.TheVariants.{Nop, Assign, Load, Held, Done, Store, Ready, Guard, Fail}
+use Rattle.bl_rob.specs.declared.entry.Work.TheVariants.{Assign, Load, Held, Done}
 
 -- the register that an entry writes
 abbrev pub target_of : Work → Option Register
-target_of Nop = None
 target_of (Assign protect op to a b c) = Some to
 target_of (Load protect kind memory to offset address) = Some to
 target_of (Held to value) = Some to
 target_of (Done to value) = Some to
-target_of (Store kind memory offset address value) = None
-target_of (Ready kind memory offset address value) = None
-target_of (Guard cond predicted other chain) = None
-target_of (Fail kind) = None
+target_of _ = None
 
 abbrev pub is_target : Option Register → Register → Bool
 is_target None x = false
@@ -31,15 +27,8 @@ writes entry x = is_target (target_of entry.work) x
 
 -- the value of an entry, where it is done; a held one isn't
 abbrev pub value_of : Work → Option ℕ
-value_of Nop = None
-value_of (Assign protect op to a b c) = None
-value_of (Load protect kind memory to offset address) = None
-value_of (Held to value) = None
 value_of (Done to value) = Some value
-value_of (Store kind memory offset address value) = None
-value_of (Ready kind memory offset address value) = None
-value_of (Guard cond predicted other chain) = None
-value_of (Fail kind) = None
+value_of _ = None
 
 -- no entry writes a register
 abbrev pub NoneWrites : List Entry → Register → Type 0

@@ -159,7 +159,7 @@ impl Machine {
                 predicted,
                 ..
             } => judges(*predicted, visible_of(&self.registers, before, *cond)),
-            Work::Nop | Work::Done { .. } | Work::Ready { .. } | Work::Fail(_) => Act::Idle,
+            _ => Act::Idle,
         }
     }
 

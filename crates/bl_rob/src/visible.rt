@@ -26,11 +26,7 @@ impl Work {
             | Work::Load { to, .. }
             | Work::Held { to, .. }
             | Work::Done { to, .. } => to.is(x),
-            Work::Nop
-            | Work::Store { .. }
-            | Work::Ready { .. }
-            | Work::Guard { .. }
-            | Work::Fail(_) => false,
+            _ => false,
         }
     }
 
@@ -40,14 +36,7 @@ impl Work {
     {
         match self {
             Work::Done { value, .. } => Some(*value),
-            Work::Held { .. } => None,
-            Work::Nop
-            | Work::Assign { .. }
-            | Work::Load { .. }
-            | Work::Store { .. }
-            | Work::Ready { .. }
-            | Work::Guard { .. }
-            | Work::Fail(_) => None,
+            _ => None,
         }
     }
 
