@@ -1,6 +1,6 @@
 -- The pieces of a whole function keep the rules as far as they go themselves.
 use Rattle.std.proofs.Common.{◌≡◌, ℕ, zero, suc, ◌+◌, ◌-◌, ◌≤◌, List, [], ◌∷◌, ◌++◌, length, reverse, replicate, Some, slice_get, refl, sym, ap, ap₂, ◌∙◌, subst, arith, inl, inr}
-use Rattle.std.proofs.lemmas.List.{length-replicate}
+use Rattle.std.proofs.lemmas.List.{length-replicate, append-nil}
 use Rattle.bl_wasm.specs.Linked.{IsLinked, IsFunction, context}
 use Rattle.bl_wasm.specs.Typing.{Context}
 use Rattle.bl_wasm.specs.declared.linked.Function.{Function}
@@ -29,7 +29,7 @@ use Rattle.bl_lower.proofs.Sizes.{Size, Sized, ReachedAs, sizes, padded_length, 
 use Rattle.bl_lower.proofs.TypedItems.{Sound, Each, EachIn, all_sound, each_in}
 use Rattle.bl_lower.proofs.Templates.{within}
 use Rattle.bl_lower.proofs.Typings.{nested_body}
-use Rattle.bl_emit.proofs.Lists.{append_none, shift_is}
+use Rattle.bl_emit.proofs.Lists.{shift_is}
 
 -- the end of a function, where it is reached
 abbrev last_pieces : ℕ → Reached → List (List Command)
@@ -37,7 +37,7 @@ last_pieces results (on q) = last results (on q) ∷ []
 last_pieces results (off next) = []
 
 last_same : (results : ℕ) (reached : Reached) → all_of (last_pieces results reached) ≡ last results reached
-last_same results (on q) = append_none (last results (on q))
+last_same results (on q) = append-nil (last results (on q))
 last_same results (off next) = refl
 
 module _ (tree : Tree) (linked : IsLinked tree) (number : ℕ) (function : Function) (exists : slice_get tree.functions number ≡ Some function) (is : IsFunction tree function) where

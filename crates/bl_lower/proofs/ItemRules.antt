@@ -1,5 +1,6 @@
 -- Each piece of a body keeps the rules as far as it goes itself.
 use Rattle.std.proofs.Common.{◌≡◌, ℕ, suc, ◌+◌, ◌*◌, ◌<◌, ◌≤◌, List, [], ◌∷◌, ◌++◌, length, drop, reverse, Some, slice_get, sym, ap, ◌∙◌, subst, arith, length-append, inl, inr}
+use Rattle.std.proofs.lemmas.List.{append-nil}
 use Rattle.bl_ops.specs.OperatorTable.{row_of, row_operands}
 use Rattle.bl_ops.specs.declared.op.Op.{Op}
 use Rattle.bl_ops.specs.declared.op.Op.TheVariants as op
@@ -26,7 +27,7 @@ use Rattle.bl_lower.proofs.FunctionPlaces.{arms_at}
 use Rattle.bl_lower.proofs.OperandRanges.{Ranged, AllRanged, ranged_tail, ranged_top, ranged_left, ranged_right}
 use Rattle.bl_lower.proofs.Sizes.{slot_head_length, template_length, after_position, checks_length}
 use Rattle.bl_lower.proofs.TypedItems.{Sound}
-use Rattle.bl_emit.proofs.Lists.{append_none, shift_is}
+use Rattle.bl_emit.proofs.Lists.{shift_is}
 use Rattle.bl_lower.proofs.Templates.{row_padded, check_fits, arms_exist, spans, local_own, local_read, functions_number, globals_number, size_static, checks_simple, called_simple, hits_into, slots_simple, one_good, move_good, load_good, store_good, grow_good}
 
 module _ (tree : Tree) (linked : IsLinked tree) (number : ℕ) (B : ℕ → Type 0) (function : Function) (exists : slice_get tree.functions number ≡ Some function) (is : IsFunction tree function) where
@@ -172,7 +173,7 @@ module _ (tree : Tree) (linked : IsLinked tree) (number : ℕ) (B : ℕ → Type
       let given = args depth f 0 (reverse (pad (shape tree f).params p.stack)) in
       let back = moves depth p.next (result_reads (shape tree f) 0 (shape tree f).results) in
       simple_piece tree linked number B p.position t (omega (arith, long))
-      (subst (EachAt (Simple tree linked number B p.position n) p.position) (ap (λ l. given ++ command.Call f ∷ l) (append_none back))
+      (subst (EachAt (Simple tree linked number B p.position n) p.position) (ap (λ l. given ++ command.Call f ∷ l) (append-nil back))
       (called_simple tree linked number B function exists is p.position n (p.position + n) (spans tree linked number B function exists is p.position n (ends_there open_ones (Call f) p ends)) p.position depth f p.next p.next p.stack []
       (mark_small open_ones) (omega arith) (omega (arith, long)) (functions_number tree linked number B function exists is f sound) low room le ranged tt))
   template_good (CallIndirect i) open_ones p sound ready ranged low le room ends =

@@ -3,6 +3,7 @@
 use Rattle.std.proofs.Common.{◌≡◌, ℕ, suc, ◌+◌, ◌≤◌, ◌<◌, List, [], ◌∷◌, ◌++◌, length, reverse, Some, slice_get, refl, sym, ap, ap₂, ◌∙◌, subst, arith, length-append, append_assoc, inl, inr}
 use Rattle.std.proofs.lemmas.Bool.{cases_lt}
 use Rattle.std.proofs.lemmas.Option.{same_Some}
+use Rattle.std.proofs.lemmas.List.{append-nil}
 use Rattle.bl_wasm.specs.declared.types.BlockType.{BlockType}
 use Rattle.bl_cmd.specs.declared.command.Command.{Command}
 use Rattle.bl_access.specs.Templates.{test_of, jump_to}
@@ -10,7 +11,6 @@ use Rattle.bl_emit.specs.Shapes.{Counts, Shape}
 use Rattle.bl_emit.specs.Constructs.{top, pad, moves, Target, as_whole, mark_of, Point, behind}
 use Rattle.bl_emit.specs.Items.{after, template, leaving}
 use Rattle.bl_emit.specs.LoweredBodies.{Body, done, step, leave, block, loop, choice, Reached, on, off, next_in, closed, low}
-use Rattle.bl_emit.proofs.Lists.{append_none}
 use Rattle.bl_lower.proofs.CodeLayout.{HasAt, block_target, block_point, loop_target, loop_point, if_target, then_point, else_point}
 
 -- ---- lists of pieces
@@ -87,7 +87,7 @@ closed_pieces depth t (on p) = closed depth t (on p) ∷ []
 closed_pieces depth t (off next) = []
 
 closed_same : (depth : ℕ) (t : Target) (reached : Reached) → all_of (closed_pieces depth t reached) ≡ closed depth t reached
-closed_same depth t (on p) = append_none (closed depth t (on p))
+closed_same depth t (on p) = append-nil (closed depth t (on p))
 closed_same depth t (off next) = refl
 
 module _ (blocks : BlockType → Counts) (shapes : ℕ → Shape) (number : ℕ) where
@@ -134,7 +134,7 @@ module _ (blocks : BlockType → Counts) (shapes : ℕ → Shape) (number : ℕ)
   -- one after another they are the commands
   pub whole_is : (open_ones : List Target) (body : Body) (p : Point) → all_of (pieces open_ones body p) ≡ Lows open_ones body p
   whole_is open_ones done p = refl
-  whole_is open_ones (leave item body) p = append_none (leaving shapes number open_ones item p)
+  whole_is open_ones (leave item body) p = append-nil (leaving shapes number open_ones item p)
   whole_is open_ones (step item body) p = ap (λ l. template shapes number open_ones item p ++ l) (whole_is open_ones body (after shapes number open_ones item p))
   whole_is open_ones (block r inner body) p =
       let t = block_target blocks shapes number open_ones r p inner in

@@ -2,7 +2,7 @@
 use Rattle.std.proofs.Common.{◌≡◌, ℕ, suc, ◌+◌, ◌-◌, Bool, true, false, cond, List, [], ◌∷◌, ◌++◌, length, map, take, Option, Some, slice_get, refl, sym, ap, ap₂, ◌∙◌, arith}
 use Rattle.std.specs.Prelude.{not}
 use Rattle.std.specs.List.{All, filter}
-use Rattle.std.proofs.lemmas.List.{length-map, map-append}
+use Rattle.std.proofs.lemmas.List.{length-map, map-append, append-nil, append_assoc}
 use Rattle.std.proofs.lemmas.List.Elements.{filter-append}
 use Rattle.std.proofs.lemmas.Option.{slice_get_within}
 use Rattle.bl_base.proofs.Lists.{all_get}
@@ -21,7 +21,6 @@ use Rattle.bl_cmd.specs.declared.definitions.ExportDef.{ExportDef}
 use Rattle.bl_cmd.specs.declared.definitions.FunctionDef.{FunctionDef}
 use Rattle.bl_cmd.specs.declared.definitions.ProgramParts.{ProgramParts as Program}
 use Rattle.bl_emit.specs.Numbers.{function_size, function_variables}
-use Rattle.bl_emit.proofs.Lists.{append_none, appended}
 use Rattle.bl_lower.specs.Trees.{demanded_from, demanded_results, export_def, function_def, global_def, low_function, low_functions, low_tree, memory_def, params_by, results_by}
 use Rattle.bl_iface.specs.JoinedProgram.{HasSameTypes, Renaming, client_numbers, is_named, is_result, joined, library_numbers, library_shift, moved_demand, moved_export}
 use Rattle.bl_iface.specs.declared.iface.Iface.{Iface}
@@ -39,7 +38,7 @@ functions_both : (tree : Tree) (xs ys : List Function) (k j : ℕ) → j ≡ k +
 functions_both tree [] ys k j e = let same : k ≡ j = omega arith in ap (λ k. low_functions tree k ys) same
 functions_both tree (x ∷ xs) ys k j e =
     ap (λ (l : List Command). low_function tree k x ++ l) (functions_both tree xs ys (suc k) j (omega arith))
-    ∙ sym (appended (low_function tree k x) (low_functions tree (suc k) xs) (low_functions tree j ys))
+    ∙ sym (append_assoc (low_function tree k x) (low_functions tree (suc k) xs) (low_functions tree j ys))
 
 flags_both : (named : ℕ → Demand) (xs ys : List Bool) (k j : ℕ) → j ≡ k + length xs → demanded_from named k (xs ++ ys) ≡ demanded_from named k xs ++ demanded_from named j ys
 flags_both named [] ys k j e = let same : k ≡ j = omega arith in ap (λ k. demanded_from named k ys) same
@@ -50,7 +49,7 @@ results_both : (xs ys : List Function) (k j : ℕ) → j ≡ k + length xs → d
 results_both [] ys k j e = let same : k ≡ j = omega arith in ap (λ k. demanded_results k ys) same
 results_both (x ∷ xs) ys k j e =
     ap (λ (l : List Demand). demanded_from (demand.Result k) 0 x.demanded ++ l) (results_both xs ys (suc k) j (omega arith))
-    ∙ sym (appended (demanded_from (demand.Result k) 0 x.demanded) (demanded_results (suc k) xs) (demanded_results j ys))
+    ∙ sym (append_assoc (demanded_from (demand.Result k) 0 x.demanded) (demanded_results (suc k) xs) (demanded_results j ys))
 
 -- ---- demands
 
@@ -113,7 +112,7 @@ no_globals k (false ∷ flags) = no_globals (suc k) flags
 front_only : (k j : ℕ) (functions : List Function) (flags : List Bool) → filter is_result (demanded_results k functions ++ demanded_from demand.Global j flags) ≡ demanded_results k functions
 front_only k j functions flags =
     filter-append is_result (demanded_results k functions) (demanded_from demand.Global j flags)
-    ∙ ap₂ (λ (x y : List Demand). x ++ y) (all_results k functions) (no_globals j flags) ∙ append_none (demanded_results k functions)
+    ∙ ap₂ (λ (x y : List Demand). x ++ y) (all_results k functions) (no_globals j flags) ∙ append-nil (demanded_results k functions)
 
 back_only : (k j : ℕ) (functions : List Function) (flags : List Bool) → filter (λ one. not (is_result one)) (demanded_results k functions ++ demanded_from demand.Global j flags) ≡ demanded_from demand.Global j flags
 back_only k j functions flags =
