@@ -12,7 +12,7 @@ use Rattle.bl_cmd.specs.Rules.{GoesTo, IsGrowth, IsGuarded, IsLocal, IsPassed, I
 use Rattle.bl_cmd.specs.Sites.{Among}
 use Rattle.bl_cmd.specs.Tables.{HasTargets, IsApart, IsGrownBy, IsPlace, IsTarget, IsTestedBy, ReadsAll, ReadsOne}
 use Rattle.bl_cmd.specs.declared.command.Command.{Command}
-use Rattle.bl_cmd.specs.declared.command.Command.TheVariants.{Set, Load, Store, Test, Jump, Arg, Call, Out, Ret, Trap}
+use Rattle.bl_cmd.specs.declared.command.Command.TheVariants.{Set, Load, Store, Test, Jump, Arg, Out}
 use Rattle.bl_cmd.specs.declared.command.Mark.{Mark}
 use Rattle.bl_cmd.specs.declared.command.Operand.{Operand}
 use Rattle.bl_cmd.specs.declared.command.Operand.TheVariants.{Const}
@@ -49,19 +49,12 @@ module _ (place : Place) where
 
 -- each target is one
 pub goes_each : (place : Place) (command : Command) → HasTargets place command ↔ ((target : ℕ) → GoesTo command target → IsTarget place target)
-goes_each place (Set mark op to a b c) = (λ _ target h. absurd h, λ _. tt)
-goes_each place (Load mark kind memory to offset address) = (λ _ target h. absurd h, λ _. tt)
-goes_each place (Store kind memory offset address value) = (λ _ target h. absurd h, λ _. tt)
 goes_each place (Test cond one other) = (
   λ both target h. elim h as (λ _. IsTarget place target) [ inl e ↦ subst (IsTarget place) e both.0 | inr e ↦ subst (IsTarget place) e both.1 ],
   λ each. (each one.0 (inl refl), each other.0 (inr refl)),
 )
 goes_each place (Jump to) = (λ h target e. subst (IsTarget place) e h, λ each. each to.0 refl)
-goes_each place (Arg mark function index value) = (λ _ target h. absurd h, λ _. tt)
-goes_each place (Call function) = (λ _ target h. absurd h, λ _. tt)
-goes_each place (Out mark index value) = (λ _ target h. absurd h, λ _. tt)
-goes_each place Ret = (λ _ target h. absurd h, λ _. tt)
-goes_each place (Trap kind) = (λ _ target h. absurd h, λ _. tt)
+goes_each place _ = (λ _ target h. absurd h, λ _. tt)
 
 -- ---- what a command sets, and where it goes
 

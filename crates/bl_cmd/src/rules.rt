@@ -63,12 +63,8 @@ fn reads_all(place: &Place, command: Command) -> bool
         Command::Load { address, .. } => place.reads(address),
         Command::Store { address, value, .. } => place.reads(address) && place.reads(value),
         Command::Test { cond, .. } => place.reads(cond),
-        Command::Jump { .. } => true,
-        Command::Arg { value, .. } => place.reads(value),
-        Command::Call { .. } => true,
-        Command::Out { value, .. } => place.reads(value),
-        Command::Ret => true,
-        Command::Trap { .. } => true,
+        Command::Arg { value, .. } | Command::Out { value, .. } => place.reads(value),
+        _ => true,
     }
 }
 
@@ -78,16 +74,8 @@ fn may_write(place: &Place, command: Command) -> bool
     ensures { IsTrue result ↔ IfSome (assigned_by command) (IsWritable place.now.parts.now place.now.function) }
 {
     match command {
-        Command::Set { to, .. } => place.is_writable(to),
-        Command::Load { to, .. } => place.is_writable(to),
-        Command::Store { .. } => true,
-        Command::Test { .. } => true,
-        Command::Jump { .. } => true,
-        Command::Arg { .. } => true,
-        Command::Call { .. } => true,
-        Command::Out { .. } => true,
-        Command::Ret => true,
-        Command::Trap { .. } => true,
+        Command::Set { to, .. } | Command::Load { to, .. } => place.is_writable(to),
+        _ => true,
     }
 }
 
@@ -113,16 +101,9 @@ fn has_targets(place: &Place, command: Command) -> bool
     ensures { IsTrue result ↔ HasTargets place.now command }
 {
     match command {
-        Command::Set { .. } => true,
-        Command::Load { .. } => true,
-        Command::Store { .. } => true,
         Command::Test { yes, no, .. } => place.is_target(yes) && place.is_target(no),
         Command::Jump { to } => place.is_target(to),
-        Command::Arg { .. } => true,
-        Command::Call { .. } => true,
-        Command::Out { .. } => true,
-        Command::Ret => true,
-        Command::Trap { .. } => true,
+        _ => true,
     }
 }
 
@@ -132,16 +113,8 @@ fn may_end(place: &Place, command: Command) -> bool
     ensures { IsTrue result ↔ (suc place.now.position ≡ entry_of place.now.parts.now (suc place.now.function) → Leaves command) }
 {
     match command {
-        Command::Set { .. } => !place.is_last(),
-        Command::Load { .. } => !place.is_last(),
-        Command::Store { .. } => !place.is_last(),
-        Command::Test { .. } => true,
-        Command::Jump { .. } => true,
-        Command::Arg { .. } => !place.is_last(),
-        Command::Call { .. } => !place.is_last(),
-        Command::Out { .. } => !place.is_last(),
-        Command::Ret => true,
-        Command::Trap { .. } => true,
+        Command::Test { .. } | Command::Jump { .. } | Command::Ret | Command::Trap { .. } => true,
+        _ => !place.is_last(),
     }
 }
 
@@ -154,8 +127,6 @@ fn keeps_ranges(place: &Place, command: Command) -> bool
         Command::Set { mark, .. } => is_mark(mark),
         Command::Load { mark, memory, .. } => is_mark(mark) && place.has_memory(memory),
         Command::Store { memory, .. } => place.has_memory(memory),
-        Command::Test { .. } => true,
-        Command::Jump { .. } => true,
         Command::Arg {
             mark,
             function,
@@ -164,8 +135,7 @@ fn keeps_ranges(place: &Place, command: Command) -> bool
         } => is_mark(mark) && place.has_param(function, index),
         Command::Call { function } => place.has_function(function),
         Command::Out { mark, index, .. } => is_mark(mark) && place.has_result(index),
-        Command::Ret => true,
-        Command::Trap { .. } => true,
+        _ => true,
     }
 }
 
@@ -183,38 +153,28 @@ fn keeps_access(place: &Place, command: Command) -> bool
     ensures { IsTrue result ↔ Rule7 place.now.parts.now place.now.function place.now.position command }
 {
     match command {
-        Command::Set { .. } => true,
         Command::Load {
             kind,
             memory,
             offset,
             address,
             ..
-        } => is_tested(
-            place,
-            address,
-            memory,
-            u64::from(offset) + u64::from(kind.width()),
-        ),
-        Command::Store {
+        }
+        | Command::Store {
             kind,
             memory,
             offset,
             address,
             ..
-        } => is_tested(
-            place,
-            address,
-            memory,
-            u64::from(offset) + u64::from(kind.width()),
-        ),
-        Command::Test { .. } => true,
-        Command::Jump { .. } => true,
-        Command::Arg { .. } => true,
-        Command::Call { .. } => true,
-        Command::Out { .. } => true,
-        Command::Ret => true,
-        Command::Trap { .. } => true,
+        } => {
+            is_tested(
+                place,
+                address,
+                memory,
+                u64::from(offset) + u64::from(kind.width()),
+            )
+        }
+        _ => true,
     }
 }
 
@@ -269,14 +229,7 @@ fn keeps_growth(place: &Place, command: Command) -> bool
             None => true,
         },
         Command::Load { to, .. } => place.memory_of(to).is_none(),
-        Command::Store { .. } => true,
-        Command::Test { .. } => true,
-        Command::Jump { .. } => true,
-        Command::Arg { .. } => true,
-        Command::Call { .. } => true,
-        Command::Out { .. } => true,
-        Command::Ret => true,
-        Command::Trap { .. } => true,
+        _ => true,
     }
 }
 
