@@ -4,7 +4,7 @@ ghost use Rattle.std.specs.Prelude.{◌≡◌, ◌≢◌, ◌<◌, ◌≤◌, �
 ghost use Rattle.bl_cmd.specs.Layout.{entry_of};
 ghost use Rattle.bl_cmd.specs.Rules.{GoesTo, IsGrowth, IsReadable, IsSum, IsTested, IsWritable, Leaves, Rule4, Rule5, Rule6, Rule7, Rule8, assign, assigned_by, branch, operands_of};
 ghost use Rattle.bl_cmd.specs.Sites.{Among};
-ghost use Rattle.bl_cmd.specs.Tables.{HasTargets, IsApart, IsGrownAlone, IsGrownBy, IsPlace, IsTarget, IsTestedBy, ReadsAll};
+ghost use Rattle.bl_cmd.specs.Tables.{HasTargets, IsApart, IsGrownAlone, IsGrownBy, IsPlace, IsTarget, IsTestedBy, ReadsEach};
 ghost use Rattle.bl_cmd.specs.Verdicts.{BreaksRule, KeepsRules};
 ghost use Rattle.bl_cmd.specs.declared.command.Mark.{Mark};
 
@@ -56,7 +56,7 @@ fn may_read(place: &Place, command: Command) -> bool
 /// Whether each operand of the command is a constant or a variable that it may read.
 fn reads_all(place: &Place, command: Command) -> bool
     requires { IsPlace place.now }
-    ensures { IsTrue result ↔ ReadsAll place.now command }
+    ensures { IsTrue result ↔ ReadsEach place.now (operands_of command) }
 {
     match command {
         Command::Set { a, b, c, .. } => place.reads(a) && place.reads(b) && place.reads(c),
