@@ -167,12 +167,8 @@ fn keeps_access(place: &Place, command: Command) -> bool
             address,
             ..
         } => {
-            is_tested(
-                place,
-                address,
-                memory,
-                u64::from(offset) + u64::from(kind.width()),
-            )
+            let bytes = u64::from(offset) + u64::from(kind.width());
+            is_tested(place, address, memory, bytes)
         }
         _ => true,
     }
