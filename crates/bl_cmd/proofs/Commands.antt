@@ -8,60 +8,34 @@ use Rattle.std.proofs.lemmas.Option.{same_Some}
 use Rattle.bl_ops.specs.declared.op.Op.{Op}
 use Rattle.bl_ops.specs.declared.op.Op.TheVariants.{I32Sub, I32GtU, Move, Outside}
 use Rattle.bl_cmd.specs.Layout.{size_of, entry_of, command_at}
-use Rattle.bl_cmd.specs.Rules.{GoesTo, IsGrowth, IsGuarded, IsLocal, IsPassed, IsReadable, IsSum, IsTested, Rule8, assign, branch, operands_of, variable}
+use Rattle.bl_cmd.specs.Rules.{GoesTo, IsGrowth, IsGuarded, IsLocal, IsPassed, IsReadable, IsSum, IsTested, Rule8, assign, branch, variable}
 use Rattle.bl_cmd.specs.Sites.{Among}
-use Rattle.bl_cmd.specs.Tables.{HasTargets, IsApart, IsGrownBy, IsPlace, IsTarget, IsTestedBy, ReadsAll, ReadsOne}
+use Rattle.bl_cmd.specs.Tables.{HasTargets, IsApart, IsGrownBy, IsPlace, IsTarget, IsTestedBy, ReadsEach}
 use Rattle.bl_cmd.specs.declared.command.Command.{Command}
-use Rattle.bl_cmd.specs.declared.command.Command.TheVariants.{Set, Load, Store, Test, Jump, Arg, Call, Out, Ret, Trap}
+use Rattle.bl_cmd.specs.declared.command.Command.TheVariants.{Set, Load, Test, Jump}
 use Rattle.bl_cmd.specs.declared.command.Mark.{Mark}
 use Rattle.bl_cmd.specs.declared.command.Operand.{Operand}
 use Rattle.bl_cmd.specs.declared.command.Operand.TheVariants.{Const}
 use Rattle.bl_cmd.specs.declared.definitions.MemoryDef.{MemoryDef}
 use Rattle.bl_cmd.specs.declared.place.Place.{Place}
 
-module _ (place : Place) where
-  abbrev Readable : ℕ → Type 0
-  Readable x = IsReadable place.parts.now place.function x
-
-  one_each : (operand : Operand) → ReadsOne place operand ↔ ((x : ℕ) → Among (operand ∷ []) x → Readable x)
-  one_each operand = (λ one x h. elim h as (λ _. Readable x) [ inl e ↦ one.each x e | inr none ↦ absurd none ], λ each. record { each = λ x e. each x (inl e) })
-
-  more_each : (operand : Operand) (operands : List Operand) (P : Type 0) → P ↔ ((x : ℕ) → Among operands x → Readable x) → (ReadsOne place operand × P) ↔ ((x : ℕ) → Among (operand ∷ operands) x → Readable x)
-  more_each operand operands P is = (
-    λ both x h. elim h as (λ _. Readable x) [ inl e ↦ both.0.each x e | inr rest ↦ is.0 both.1 x rest ],
-    λ each. (record { each = λ x e. each x (inl e) }, is.1 (λ x h. each x (inr h))),
-  )
-
-  none_each : Unit {0} ↔ ((x : ℕ) → Among [] x → Readable x)
-  none_each = (λ _ x h. absurd h, λ _. tt)
-
-  -- each operand is readable where each variable among them is
-  pub reads_each : (command : Command) → ReadsAll place command ↔ ((x : ℕ) → Among (operands_of command) x → Readable x)
-  reads_each (Set mark op to a b c) =
-      let three = more_each a (b ∷ c ∷ []) (ReadsOne place b × ReadsOne place c) (more_each b (c ∷ []) (ReadsOne place c) (one_each c)) in
-      (λ all. three.0 (all.0, (all.1, all.2)), λ each. let all = three.1 each in (all.0, all.1.0, all.1.1))
-  reads_each (Load mark kind memory to offset address) = one_each address
-  reads_each (Store kind memory offset address value) = more_each address (value ∷ []) (ReadsOne place value) (one_each value)
-  reads_each (Test cond one other) = one_each cond
-  reads_each (Arg mark function index value) = one_each value
-  reads_each (Out mark index value) = one_each value
-  reads_each _ = none_each
+-- each operand is readable where each variable among them is
+pub reads_each : (place : Place) (operands : List Operand) → ReadsEach place operands ↔ ((x : ℕ) → Among operands x → IsReadable place.parts.now place.function x)
+reads_each place [] = (λ _ x h. absurd h, λ _. tt)
+reads_each place (operand ∷ operands) =
+    let rest = reads_each place operands in (
+      λ all x h. elim h as (λ _. IsReadable place.parts.now place.function x) [ inl e ↦ all.0.each x e | inr later ↦ rest.0 all.1 x later ],
+      λ each. (record { each = λ x e. each x (inl e) }, rest.1 (λ x h. each x (inr h))),
+    )
 
 -- each target is one
 pub goes_each : (place : Place) (command : Command) → HasTargets place command ↔ ((target : ℕ) → GoesTo command target → IsTarget place target)
-goes_each place (Set mark op to a b c) = (λ _ target h. absurd h, λ _. tt)
-goes_each place (Load mark kind memory to offset address) = (λ _ target h. absurd h, λ _. tt)
-goes_each place (Store kind memory offset address value) = (λ _ target h. absurd h, λ _. tt)
 goes_each place (Test cond one other) = (
   λ both target h. elim h as (λ _. IsTarget place target) [ inl e ↦ subst (IsTarget place) e both.0 | inr e ↦ subst (IsTarget place) e both.1 ],
   λ each. (each one.0 (inl refl), each other.0 (inr refl)),
 )
 goes_each place (Jump to) = (λ h target e. subst (IsTarget place) e h, λ each. each to.0 refl)
-goes_each place (Arg mark function index value) = (λ _ target h. absurd h, λ _. tt)
-goes_each place (Call function) = (λ _ target h. absurd h, λ _. tt)
-goes_each place (Out mark index value) = (λ _ target h. absurd h, λ _. tt)
-goes_each place Ret = (λ _ target h. absurd h, λ _. tt)
-goes_each place (Trap kind) = (λ _ target h. absurd h, λ _. tt)
+goes_each place _ = (λ _ target h. absurd h, λ _. tt)
 
 -- ---- what a command sets, and where it goes
 

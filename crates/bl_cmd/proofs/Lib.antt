@@ -13,3 +13,4 @@ pub mod AppendLemmas
 pub mod VariableBounds
 pub mod WeightSums
 pub mod OwnProtects
+pub mod SiteOperands

@@ -1,11 +1,11 @@
 -- The tables with which a program's commands are checked.
 use Rattle.bl_cmd.specs.Sites.{Names}
-use Rattle.std.specs.Prelude.{◌≡◌, ◌≢◌, ◌⊎◌, ◌<◌, ◌≤◌, ℕ, suc, ◌-◌, List, length, slice_index}
+use Rattle.std.specs.Prelude.{◌≡◌, ◌≢◌, ◌⊎◌, ◌<◌, ◌≤◌, ℕ, suc, ◌-◌, List, [], ◌∷◌, length, slice_index}
 use Rattle.bl_cmd.specs.Layout.{first_of, entry_of, Holds}
 use Rattle.bl_cmd.specs.Programs.{IsProgram}
 use Rattle.bl_cmd.specs.Rules.{Rule2, IsLocal, IsReadable, IsPassed, IsGuarded, variable}
 use Rattle.bl_cmd.specs.declared.command.Command.{Command}
-use Rattle.bl_cmd.specs.declared.command.Command.TheVariants.{Set, Load, Store, Test, Jump, Arg, Call, Out, Ret, Trap}
+use Rattle.bl_cmd.specs.declared.command.Command.TheVariants.{Test, Jump}
 use Rattle.bl_cmd.specs.declared.command.Operand.{Operand}
 use Rattle.bl_cmd.specs.declared.definitions.ProgramParts.{ProgramParts as Program}
 use Rattle.bl_cmd.specs.Entrants.{AreEntrants}
@@ -44,15 +44,10 @@ HasTargets place _ = Unit {0}
 pub record ReadsOne (place : Place) (operand : Operand) : Type 0 where
   pub each : (x : ℕ) → Names operand x → IsReadable place.parts.now place.function x
 
--- they may read what each operand of the command names
-abbrev pub ReadsAll : Place → Command → Type 0
-ReadsAll place (Set mark op to a b c) = ReadsOne place a × ReadsOne place b × ReadsOne place c
-ReadsAll place (Load mark kind memory to offset address) = ReadsOne place address
-ReadsAll place (Store kind memory offset address value) = ReadsOne place address × ReadsOne place value
-ReadsAll place (Test cond one other) = ReadsOne place cond
-ReadsAll place (Arg mark function index value) = ReadsOne place value
-ReadsAll place (Out mark index value) = ReadsOne place value
-ReadsAll place _ = Unit {0}
+-- they may read what each of the operands names
+abbrev pub ReadsEach : Place → List Operand → Type 0
+ReadsEach place [] = Unit {0}
+ReadsEach place (operand ∷ operands) = ReadsOne place operand × ReadsEach place operands
 
 -- the test of an access: t is a variable of the function that isn't a result and isn't the address, `yes` isn't
 -- the access, and nothing else comes to the test and the access but by going on

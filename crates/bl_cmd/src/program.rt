@@ -101,13 +101,7 @@ fn is_command(command: Command) -> bool
             offset: _offset,
             ..
         } => !kind.is_load(),
-        Command::Test { .. } => true,
-        Command::Jump { .. } => true,
-        Command::Arg { .. } => true,
-        Command::Call { .. } => true,
-        Command::Out { .. } => true,
-        Command::Ret => true,
-        Command::Trap { .. } => true,
+        _ => true,
     }
 }
 

@@ -4,7 +4,7 @@ ghost use Rattle.std.specs.Prelude.{◌≡◌, ◌≢◌, ◌<◌, ◌≤◌, �
 ghost use Rattle.bl_cmd.specs.Layout.{entry_of};
 ghost use Rattle.bl_cmd.specs.Rules.{GoesTo, IsGrowth, IsReadable, IsSum, IsTested, IsWritable, Leaves, Rule4, Rule5, Rule6, Rule7, Rule8, assign, assigned_by, branch, operands_of};
 ghost use Rattle.bl_cmd.specs.Sites.{Among};
-ghost use Rattle.bl_cmd.specs.Tables.{HasTargets, IsApart, IsGrownAlone, IsGrownBy, IsPlace, IsTarget, IsTestedBy, ReadsAll};
+ghost use Rattle.bl_cmd.specs.Tables.{HasTargets, IsApart, IsGrownAlone, IsGrownBy, IsPlace, IsTarget, IsTestedBy, ReadsEach};
 ghost use Rattle.bl_cmd.specs.Verdicts.{BreaksRule, KeepsRules};
 ghost use Rattle.bl_cmd.specs.declared.command.Mark.{Mark};
 
@@ -56,19 +56,15 @@ fn may_read(place: &Place, command: Command) -> bool
 /// Whether each operand of the command is a constant or a variable that it may read.
 fn reads_all(place: &Place, command: Command) -> bool
     requires { IsPlace place.now }
-    ensures { IsTrue result ↔ ReadsAll place.now command }
+    ensures { IsTrue result ↔ ReadsEach place.now (operands_of command) }
 {
     match command {
         Command::Set { a, b, c, .. } => place.reads(a) && place.reads(b) && place.reads(c),
         Command::Load { address, .. } => place.reads(address),
         Command::Store { address, value, .. } => place.reads(address) && place.reads(value),
         Command::Test { cond, .. } => place.reads(cond),
-        Command::Jump { .. } => true,
-        Command::Arg { value, .. } => place.reads(value),
-        Command::Call { .. } => true,
-        Command::Out { value, .. } => place.reads(value),
-        Command::Ret => true,
-        Command::Trap { .. } => true,
+        Command::Arg { value, .. } | Command::Out { value, .. } => place.reads(value),
+        _ => true,
     }
 }
 
@@ -78,16 +74,8 @@ fn may_write(place: &Place, command: Command) -> bool
     ensures { IsTrue result ↔ IfSome (assigned_by command) (IsWritable place.now.parts.now place.now.function) }
 {
     match command {
-        Command::Set { to, .. } => place.is_writable(to),
-        Command::Load { to, .. } => place.is_writable(to),
-        Command::Store { .. } => true,
-        Command::Test { .. } => true,
-        Command::Jump { .. } => true,
-        Command::Arg { .. } => true,
-        Command::Call { .. } => true,
-        Command::Out { .. } => true,
-        Command::Ret => true,
-        Command::Trap { .. } => true,
+        Command::Set { to, .. } | Command::Load { to, .. } => place.is_writable(to),
+        _ => true,
     }
 }
 
@@ -113,16 +101,9 @@ fn has_targets(place: &Place, command: Command) -> bool
     ensures { IsTrue result ↔ HasTargets place.now command }
 {
     match command {
-        Command::Set { .. } => true,
-        Command::Load { .. } => true,
-        Command::Store { .. } => true,
         Command::Test { yes, no, .. } => place.is_target(yes) && place.is_target(no),
         Command::Jump { to } => place.is_target(to),
-        Command::Arg { .. } => true,
-        Command::Call { .. } => true,
-        Command::Out { .. } => true,
-        Command::Ret => true,
-        Command::Trap { .. } => true,
+        _ => true,
     }
 }
 
@@ -132,16 +113,8 @@ fn may_end(place: &Place, command: Command) -> bool
     ensures { IsTrue result ↔ (suc place.now.position ≡ entry_of place.now.parts.now (suc place.now.function) → Leaves command) }
 {
     match command {
-        Command::Set { .. } => !place.is_last(),
-        Command::Load { .. } => !place.is_last(),
-        Command::Store { .. } => !place.is_last(),
-        Command::Test { .. } => true,
-        Command::Jump { .. } => true,
-        Command::Arg { .. } => !place.is_last(),
-        Command::Call { .. } => !place.is_last(),
-        Command::Out { .. } => !place.is_last(),
-        Command::Ret => true,
-        Command::Trap { .. } => true,
+        Command::Test { .. } | Command::Jump { .. } | Command::Ret | Command::Trap { .. } => true,
+        _ => !place.is_last(),
     }
 }
 
@@ -154,8 +127,6 @@ fn keeps_ranges(place: &Place, command: Command) -> bool
         Command::Set { mark, .. } => is_mark(mark),
         Command::Load { mark, memory, .. } => is_mark(mark) && place.has_memory(memory),
         Command::Store { memory, .. } => place.has_memory(memory),
-        Command::Test { .. } => true,
-        Command::Jump { .. } => true,
         Command::Arg {
             mark,
             function,
@@ -164,8 +135,7 @@ fn keeps_ranges(place: &Place, command: Command) -> bool
         } => is_mark(mark) && place.has_param(function, index),
         Command::Call { function } => place.has_function(function),
         Command::Out { mark, index, .. } => is_mark(mark) && place.has_result(index),
-        Command::Ret => true,
-        Command::Trap { .. } => true,
+        _ => true,
     }
 }
 
@@ -183,38 +153,24 @@ fn keeps_access(place: &Place, command: Command) -> bool
     ensures { IsTrue result ↔ Rule7 place.now.parts.now place.now.function place.now.position command }
 {
     match command {
-        Command::Set { .. } => true,
         Command::Load {
             kind,
             memory,
             offset,
             address,
             ..
-        } => is_tested(
-            place,
-            address,
-            memory,
-            u64::from(offset) + u64::from(kind.width()),
-        ),
-        Command::Store {
+        }
+        | Command::Store {
             kind,
             memory,
             offset,
             address,
             ..
-        } => is_tested(
-            place,
-            address,
-            memory,
-            u64::from(offset) + u64::from(kind.width()),
-        ),
-        Command::Test { .. } => true,
-        Command::Jump { .. } => true,
-        Command::Arg { .. } => true,
-        Command::Call { .. } => true,
-        Command::Out { .. } => true,
-        Command::Ret => true,
-        Command::Trap { .. } => true,
+        } => {
+            let bytes = u64::from(offset) + u64::from(kind.width());
+            is_tested(place, address, memory, bytes)
+        }
+        _ => true,
     }
 }
 
@@ -269,14 +225,7 @@ fn keeps_growth(place: &Place, command: Command) -> bool
             None => true,
         },
         Command::Load { to, .. } => place.memory_of(to).is_none(),
-        Command::Store { .. } => true,
-        Command::Test { .. } => true,
-        Command::Jump { .. } => true,
-        Command::Arg { .. } => true,
-        Command::Call { .. } => true,
-        Command::Out { .. } => true,
-        Command::Ret => true,
-        Command::Trap { .. } => true,
+        _ => true,
     }
 }
 

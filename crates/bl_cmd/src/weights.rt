@@ -17,16 +17,9 @@ fn mark_of(command: Command) -> Option<Mark>
     ensures { result ≡ mark_of command }
 {
     match command {
-        Command::Set { mark, .. } => Some(mark),
-        Command::Load { mark, .. } => Some(mark),
-        Command::Store { .. } => None,
-        Command::Test { .. } => None,
-        Command::Jump { .. } => None,
-        Command::Arg { mark, .. } => Some(mark),
-        Command::Call { .. } => None,
-        Command::Out { mark, .. } => Some(mark),
-        Command::Ret => None,
-        Command::Trap { .. } => None,
+        Command::Set { mark, .. } | Command::Load { mark, .. } => Some(mark),
+        Command::Arg { mark, .. } | Command::Out { mark, .. } => Some(mark),
+        _ => None,
     }
 }
 

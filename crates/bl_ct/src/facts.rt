@@ -220,22 +220,8 @@ fn taken(parts: &ProgramParts, command: Command) -> Option<u32>
     ensures { (number : ℕ) → (result ≡ Some number) ↔ TakesSecret parts.now command number }
 {
     match command {
-        Command::Load { memory, .. } => {
-            if is_labelled(parts, memory, Label::Secret) {
-                Some(memory)
-            } else {
-                None
-            }
-        }
-        Command::Set { .. } => None,
-        Command::Store { .. } => None,
-        Command::Test { .. } => None,
-        Command::Jump { .. } => None,
-        Command::Arg { .. } => None,
-        Command::Call { .. } => None,
-        Command::Out { .. } => None,
-        Command::Ret => None,
-        Command::Trap { .. } => None,
+        Command::Load { memory, .. } if is_labelled(parts, memory, Label::Secret) => Some(memory),
+        _ => None,
     }
 }
 
@@ -254,32 +240,12 @@ fn given(parts: &ProgramParts, command: Command) -> Option<Var>
     ensures { (x : ℕ) → (option_map (λ var. var.0) result ≡ Some x) ↔ GivesPublic parts.now command x }
 {
     match command {
-        Command::Store { memory, value, .. } => {
-            if is_labelled(parts, memory, Label::Public) {
-                named(value)
-            } else {
-                None
-            }
-        }
-        Command::Set { .. } => None,
-        Command::Load { .. } => None,
-        Command::Test { .. } => None,
-        Command::Jump { .. } => None,
-        Command::Arg { .. } => None,
-        Command::Call { .. } => None,
-        Command::Out { .. } => None,
-        Command::Ret => None,
-        Command::Trap { .. } => None,
-    }
-}
-
-/// The variable that the operand is.
-fn named(operand: Operand) -> Option<Var>
-    ensures { (x : ℕ) → (option_map (λ var. var.0) result ≡ Some x) ↔ Names operand x }
-{
-    match operand {
-        Operand::Var(var) => Some(var),
-        Operand::Const(_) => None,
+        Command::Store {
+            memory,
+            value: Operand::Var(var),
+            ..
+        } if is_labelled(parts, memory, Label::Public) => Some(var),
+        _ => None,
     }
 }
 

@@ -1,20 +1,19 @@
 -- Positions, variables and weights of a well-formed program lie in their ranges.
-use Rattle.std.proofs.Common.{◌≡◌, ℕ, suc, ◌^◌, ◌<◌, ◌≤◌, Bool, true, false, [], ◌∷◌, length, Option, Some, None, unwrap_or, min, refl, sym, ap, subst, ◌∙◌, arith, ◌⊎◌, inl, inr}
-use Rattle.std.specs.Prelude.{IsSomeAnd, IsSome, option_map, option_and_then, if◌then◌else◌}
+use Rattle.std.proofs.Common.{◌≡◌, ℕ, suc, ◌^◌, ◌<◌, ◌≤◌, true, false, length, Option, Some, None, unwrap_or, min, refl, sym, ap, subst, ◌∙◌, arith, ◌⊎◌, inl, inr}
+use Rattle.std.specs.Prelude.{IsSomeAnd, IsSome, option_map, option_and_then}
 use Rattle.std.proofs.lemmas.Bool.{cases_lt, false≢true}
 use Rattle.std.proofs.lemmas.Option.{none-some, slice_get_within, slice_get_past, same_Some}
 use Rattle.bl_base.proofs.Lists.{all_get, within_get}
-use Rattle.bl_ops.specs.OperatorTable.{is_division}
 use Rattle.bl_cmd.specs.Layout.{command_at, param, result, running, params_of, results_of, statics, Holds}
 use Rattle.bl_cmd.specs.Programs.{IsProgram}
 use Rattle.bl_cmd.specs.Rules.{IsWellFormed, IsFunction, IsOwn, IsReadable, IsWritable, Rule4, Rule6, operands_of}
 use Rattle.bl_cmd.specs.Sites.{Among, Loads, mark_of, mark_at, moved_by, sunk_by, written_by, listed, site_weight, IsSite, Writes}
-use Rattle.bl_cmd.specs.declared.command.Operand.{Operand}
 use Rattle.bl_cmd.specs.declared.command.Mark.{Mark}
 use Rattle.bl_cmd.specs.declared.command.Command.{Command}
-use Rattle.bl_cmd.specs.declared.command.Command.TheVariants.{Set, Load, Store, Test, Jump, Arg, Call, Out, Ret, Trap}
+use Rattle.bl_cmd.specs.declared.command.Command.TheVariants.{Set, Load, Arg, Out, Trap}
 use Rattle.bl_cmd.specs.declared.definitions.FunctionDef.{FunctionDef}
 use Rattle.bl_cmd.specs.declared.definitions.ProgramParts.{ProgramParts as Program}
+use Rattle.bl_cmd.proofs.SiteOperands.{moved_in, sunk_in}
 use Rattle.bl_cmd.proofs.Layouts.{number_is, next_first, first_below, held_by, running_is, result_own}
 use Rattle.bl_cmd.proofs.Totals.{site_exact}
 use Rattle.bl_graph.specs.Ranges.{commands, variables, AreInRange}
@@ -131,32 +130,6 @@ module _ (program : Program) (facts : IsProgram program) (rules : IsWellFormed p
   written_small s function x (Out mark index value) holds reads ranges e =
       subst (λ y. y < variables program) (ap (λ f. result program f index) (sym (running_is program function s holds)) ∙ same_Some (result program (running program s) index) x e) (result_small function index ranges.1)
   written_small s function x _ holds reads ranges e = absurd (none-some x e)
-
-  -- what a site or a sink reads is among the command's operands
-  moved_in : (command : Command) (x : ℕ) → Among (moved_by command) x → Among (operands_of command) x
-  moved_in (Set mark op to a b c) x h = h
-  moved_in (Arg mark function index value) x h = h
-  moved_in (Out mark index value) x h = h
-  moved_in _ x h = absurd h
-
-  first_two : (divides : Bool) (a b c : Operand) (x : ℕ) → Among (if divides then a ∷ b ∷ [] else []) x → Among (a ∷ b ∷ c ∷ []) x
-  first_two true a b c x (inl h) = inl h
-  first_two true a b c x (inr (inl h)) = inr (inl h)
-  first_two true a b c x (inr (inr h)) = absurd h
-  first_two false a b c x h = absurd h
-
-  sunk_in : (command : Command) (x : ℕ) → Among (sunk_by command) x → Among (operands_of command) x
-  sunk_in (Set mark op to a b c) x h = first_two (is_division op) a b c x h
-  sunk_in (Load mark kind memory to offset address) x h = h
-  sunk_in (Store kind memory offset address value) x (inl h) = inl h
-  sunk_in (Store kind memory offset address value) x (inr h) = absurd h
-  sunk_in (Test cond one other) x h = h
-  sunk_in (Jump to) x h = absurd h
-  sunk_in (Arg mark function index value) x h = absurd h
-  sunk_in (Call function) x h = absurd h
-  sunk_in (Out mark index value) x h = absurd h
-  sunk_in Ret x h = absurd h
-  sunk_in (Trap kind) x h = absurd h
 
   -- the first seven commands are traps
   trap_low : (s : ℕ) (command : Command) → s < 7 → command_at program s ≡ Some command → (kind : Rattle.bl_base.specs.declared.trap.Trap.Trap) × (command ≡ Trap kind)

@@ -1,5 +1,5 @@
 //! What commands read.
-ghost use Rattle.std.specs.Prelude.{◌≡◌, ◌↔◌, ◌<◌, ◌^◌, [], ◌∷◌, IfOk, IsTrue, OnOk, length, option_map};
+ghost use Rattle.std.specs.Prelude.{◌≡◌, ◌<◌, ◌^◌, [], ◌∷◌, IfOk, OnOk, length, option_map};
 ghost use Rattle.bl_cmd.specs.Sites.{Among, Loads, Names, moved_by, sunk_by};
 ghost use Rattle.bl_graph.specs.Graphs.{AreUses};
 ghost use Rattle.bl_graph.specs.UseLists.{AddsPlace, AddsRow, ArePlacesBelow, IsLeastFrom, LoadAt, OperandAt, lower_of};
@@ -46,28 +46,10 @@ pub(crate) fn uses_of(alloc: Global, commands: &[Command]) -> Result<Uses, NoMem
 fn push_load(loads: &mut List<Pos>, at: u32, command: Command) -> Result<(), NoMemory>
     ensures { OnOk result (AddsPlace (Loads command) at loads.old loads.new) }
 {
-    if is_load(command) {
+    if matches!(command, Command::Load { .. }) {
         loads.push(Pos(at))?;
     }
     Ok(())
-}
-
-/// Whether the command is a Load.
-fn is_load(command: Command) -> bool
-    ensures { IsTrue result ↔ Loads command }
-{
-    match command {
-        Command::Load { .. } => true,
-        Command::Set { .. } => false,
-        Command::Store { .. } => false,
-        Command::Test { .. } => false,
-        Command::Jump { .. } => false,
-        Command::Arg { .. } => false,
-        Command::Call { .. } => false,
-        Command::Out { .. } => false,
-        Command::Ret => false,
-        Command::Trap { .. } => false,
-    }
 }
 
 /// Appends what a Set, an Arg or an Out reads.
@@ -77,15 +59,8 @@ fn push_reads(reads: &mut List<Use>, at: u32, command: Command) -> Result<(), No
 {
     match command {
         Command::Set { a, b, c, .. } => push_row(reads, at, &[a, b, c]),
-        Command::Load { .. } => Ok(()),
-        Command::Store { .. } => Ok(()),
-        Command::Test { .. } => Ok(()),
-        Command::Jump { .. } => Ok(()),
-        Command::Arg { value, .. } => push_operand(reads, at, value),
-        Command::Call { .. } => Ok(()),
-        Command::Out { value, .. } => push_operand(reads, at, value),
-        Command::Ret => Ok(()),
-        Command::Trap { .. } => Ok(()),
+        Command::Arg { value, .. } | Command::Out { value, .. } => push_operand(reads, at, value),
+        _ => Ok(()),
     }
 }
 
@@ -95,22 +70,12 @@ fn push_sinks(sinks: &mut List<Use>, at: u32, command: Command) -> Result<(), No
     ensures { OnOk result (AddsRow (Among (sunk_by command)) at sinks.old sinks.new) }
 {
     match command {
-        Command::Set { op, a, b, .. } => {
-            if op.is_division() {
-                push_row(sinks, at, &[a, b])
-            } else {
-                Ok(())
-            }
+        Command::Set { op, a, b, .. } if op.is_division() => push_row(sinks, at, &[a, b]),
+        Command::Load { address, .. } | Command::Store { address, .. } => {
+            push_operand(sinks, at, address)
         }
-        Command::Load { address, .. } => push_operand(sinks, at, address),
-        Command::Store { address, .. } => push_operand(sinks, at, address),
         Command::Test { cond, .. } => push_operand(sinks, at, cond),
-        Command::Jump { .. } => Ok(()),
-        Command::Arg { .. } => Ok(()),
-        Command::Call { .. } => Ok(()),
-        Command::Out { .. } => Ok(()),
-        Command::Ret => Ok(()),
-        Command::Trap { .. } => Ok(()),
+        _ => Ok(()),
     }
 }
 

@@ -119,19 +119,13 @@ fn written(running: &Running, at: u32, command: Command) -> Option<Var>
     ensures { option_map (λ var. var.0) result ≡ written_by running.now.parts.now at command }
 {
     match command {
-        Command::Set { to, .. } => Some(to),
-        Command::Load { to, .. } => Some(to),
-        Command::Store { .. } => None,
-        Command::Test { .. } => None,
-        Command::Jump { .. } => None,
+        Command::Set { to, .. } | Command::Load { to, .. } => Some(to),
         Command::Arg {
             function,
             index,
             ..
         } => Some(Var(running.firsts[function as usize] + index)),
-        Command::Call { .. } => None,
         Command::Out { index, .. } => Some(Var(running.results + index)),
-        Command::Ret => None,
-        Command::Trap { .. } => None,
+        _ => None,
     }
 }

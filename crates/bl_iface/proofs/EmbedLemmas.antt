@@ -9,7 +9,7 @@ use Rattle.bl_cmd.specs.Layout.{statics, size_of, params_of, results_of, entry_o
 use Rattle.bl_cmd.specs.Rules.{GoesTo, IsGrowth, IsGuarded, IsLocal, IsPassed, IsReadable, IsSum, IsTested, IsWritable, Leaves, Reach, Rule4, Rule5, Rule6, Rule7, Rule8, assigned_by, operands_of, variable}
 use Rattle.bl_cmd.specs.Sites.{Among, Names}
 use Rattle.bl_cmd.specs.declared.command.Command.{Command}
-use Rattle.bl_cmd.specs.declared.command.Command.TheVariants.{Set, Load, Store, Test, Jump, Arg, Call, Out, Ret, Trap}
+use Rattle.bl_cmd.specs.declared.command.Command.TheVariants.{Set, Load, Store, Test, Jump, Arg, Call, Out}
 use Rattle.bl_cmd.specs.declared.command.Operand.{Operand}
 use Rattle.bl_cmd.specs.declared.command.Operand.TheVariants.{Var, Const}
 use Rattle.bl_cmd.specs.declared.definitions.MemoryDef.{MemoryDef}
@@ -71,19 +71,12 @@ module _ (n : Renaming) where
   leaves_renamed c = elim c as (λ c. Leaves c → Leaves (renamed n c)) [ Set mark op to a b d ↦ λ h. h | _ ↦ λ h. h ]
 
   pub goes_renamed : (c : Command) (target : ℕ) → GoesTo (renamed n c) target → (t : ℕ) × GoesTo c t × (n.position t ≡ target)
-  goes_renamed (Set mark op to a b c) target h = absurd h
-  goes_renamed (Load mark kind memory to offset address) target h = absurd h
-  goes_renamed (Store kind memory offset address value) target h = absurd h
   goes_renamed (Test cond one other) target h = elim h as (λ _. (t : ℕ) × GoesTo (Test cond one other) t × (n.position t ≡ target)) [
     | inl e ↦ (one.0, inl refl, e)
     | inr e ↦ (other.0, inr refl, e)
   ]
   goes_renamed (Jump to) target e = (to.0, refl, e)
-  goes_renamed (Arg mark function index value) target h = absurd h
-  goes_renamed (Call function) target h = absurd h
-  goes_renamed (Out mark index value) target h = absurd h
-  goes_renamed Ret target h = absurd h
-  goes_renamed (Trap kind) target h = absurd h
+  goes_renamed _ target h = absurd h
 
 -- the number of a variable or constant
 abbrev number_of : Operand → ℕ

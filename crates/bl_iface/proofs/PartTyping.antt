@@ -1,5 +1,5 @@
 -- A part whose typing agrees with the whole's: its commands keep the transient rules there.
-use Rattle.std.proofs.Common.{◌≡◌, inl, inr, ℕ, ◌+◌, ◌<◌, ◌≤◌, Bool, true, false, List, [], ◌∷◌, length, map, Option, Some, None, IsTrue, refl, sym, ap, ◌∙◌, subst, arith}
+use Rattle.std.proofs.Common.{◌≡◌, ℕ, ◌+◌, ◌<◌, ◌≤◌, Bool, true, false, List, [], ◌∷◌, length, map, Option, Some, None, IsTrue, refl, sym, ap, ◌∙◌, subst, arith}
 use Rattle.std.specs.Prelude.{IsSomeAnd, if◌then◌else◌, not}
 use Rattle.std.proofs.lemmas.Bool.{false≢true}
 use Rattle.std.proofs.lemmas.Option.{none-some, same_Some, slice_get_within}
@@ -10,9 +10,10 @@ use Rattle.bl_cmd.specs.Programs.{IsProgram}
 use Rattle.bl_cmd.specs.Rules.{IsOwn, IsReadable, IsWellFormed, Rule4, Rule6, operands_of}
 use Rattle.bl_cmd.specs.Sites.{Among, Loads, moved_by, sunk_by, written_by}
 use Rattle.bl_cmd.specs.declared.command.Command.{Command}
-use Rattle.bl_cmd.specs.declared.command.Command.TheVariants.{Set, Load, Store, Test, Arg, Out, Trap}
+use Rattle.bl_cmd.specs.declared.command.Command.TheVariants.{Set, Load, Arg, Out, Trap}
 use Rattle.bl_cmd.specs.declared.command.Operand.{Operand}
 use Rattle.bl_cmd.specs.declared.definitions.ProgramParts.{ProgramParts as Program}
+use Rattle.bl_cmd.proofs.SiteOperands.{moved_in, sunk_in}
 use Rattle.bl_cmd.proofs.Layouts.{held_by, result_own, running_is}
 use Rattle.bl_cmd.proofs.VariableBounds.{own_small, writable_small}
 use Rattle.bl_transient.specs.Transient.{Flows}
@@ -85,27 +86,6 @@ module _ (n : Renaming) where
   loads_renamed : (c : Command) → Loads (renamed n c) → Loads c
   loads_renamed c = elim c as (λ c. Loads (renamed n c) → Loads c) [ Set mark op to a b d ↦ λ h. h | _ ↦ λ h. h ]
 
--- what a site makes its value of, and what a sink reads, is among the operands
-moved_among : (c : Command) (x : ℕ) → Among (moved_by c) x → Among (operands_of c) x
-moved_among (Set mark op to a b c) x h = h
-moved_among (Arg mark function index value) x h = h
-moved_among (Out mark index value) x h = h
-moved_among _ x h = absurd h
-
-sunk_among_set : (d : Bool) (a b c : Operand) (x : ℕ) → Among (if d then a ∷ b ∷ [] else []) x → Among (a ∷ b ∷ c ∷ []) x
-sunk_among_set true a b c x h = elim h as (λ _. Among (a ∷ b ∷ c ∷ []) x) [
-  | inl one ↦ inl one
-  | inr rest ↦ elim rest as (λ _. Among (a ∷ b ∷ c ∷ []) x) [ inl two ↦ inr (inl two) | inr none ↦ absurd none ]
-]
-sunk_among_set false a b c x h = absurd h
-
-sunk_among : (c : Command) (x : ℕ) → Among (sunk_by c) x → Among (operands_of c) x
-sunk_among (Set mark op to a b c) x h = sunk_among_set (is_division op) a b c x h
-sunk_among (Load mark kind memory to offset address) x h = h
-sunk_among (Store kind memory offset address value) x h = elim h as (λ _. Among (address ∷ value ∷ []) x) [ inl one ↦ inl one | inr none ↦ absurd none ]
-sunk_among (Test cond one other) x h = h
-sunk_among _ x h = absurd h
-
 -- ---- variables are fewer than all
 
 module _ (part whole : Program) (shift : Shift) (n : Renaming) (typing joint set : ℕ → Bool) (s : Shifted part whole shift n) (e : Embeds part whole n (λ f. shift.functions + f))
@@ -153,13 +133,13 @@ module _ (part whole : Program) (shift : Shift) (n : Renaming) (typing joint set
     moves_at x y reads is bare t =
         let four = well.rule4 p f c holds stands in
         let site = written f p c y holds four (well.rule6 p f c holds stands) is in
-        let read = was_read f c x (moved_by c) holds.exists four (moved_among c) (subst (λ l. Among l x) (moved_renamed n c) reads) in
+        let read = was_read f c x (moved_by c) holds.exists four (moved_in c) (subst (λ l. Among l x) (moved_renamed n c) reads) in
         site.2 (flows.assigns.moves p read.0 site.0 (here (λ k. Among (moved_by k) read.0) read.1) (here (λ k. written_by part p k ≡ Some site.0) site.1) bare (read.2 t))
 
     sinks_at : (x : ℕ) → Among (sunk_by (renamed n c)) x → IsTrue (not (joint x))
     sinks_at x reads =
         let four = well.rule4 p f c holds stands in
-        let read = was_read f c x (sunk_by c) holds.exists four (sunk_among c) (subst (λ l. Among l x) (sunk_renamed n c) reads) in
+        let read = was_read f c x (sunk_by c) holds.exists four (sunk_in c) (subst (λ l. Among l x) (sunk_renamed n c) reads) in
         contra (joint x) (typing read.0) read.2 (flows.sinks p read.0 (here (λ k. Among (sunk_by k) read.0) read.1))
 
   -- a command of the part keeps the transient rules in the whole, where the same sites are protected

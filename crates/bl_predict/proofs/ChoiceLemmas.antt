@@ -126,16 +126,8 @@ there_call false a f b g = tt
 -- where the plain run has a step, there is something to fetch
 there : (Q : Program) (t : Plain) (o : Option Command) → HasStep (perform Q o t) → IsThere (fetched Q t.position t.chain o)
 there Q t None h = h
-there Q t (Some (command.Set mark op to a b c)) h = tt
-there Q t (Some (command.Load mark kind memory to offset address)) h = tt
-there Q t (Some (command.Store kind memory offset address value)) h = tt
-there Q t (Some (command.Test test one other)) h = tt
-there Q t (Some (command.Jump to)) h = tt
-there Q t (Some (command.Arg mark function index value)) h = tt
 there Q t (Some (command.Call function)) h = there_call (nat_lt (suc (length t.chain)) most_calls) _ _ _ _
-there Q t (Some (command.Out mark index value)) h = tt
-there Q t (Some command.Ret) h = tt
-there Q t (Some (command.Trap kind)) h = tt
+there Q t (Some _) h = tt
 
 data Goes (guess : Bool) (s : State) (x : Fetched) : Type 0 where
   fetches : is_some (fetch true s x) ≡ true → Goes guess s x

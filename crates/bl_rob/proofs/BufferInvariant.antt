@@ -137,16 +137,9 @@ fresh_call Q function position chain false one other a b = b
 
 fresh_of : (Q : Program) (position : ℕ) (chain : List ℕ) (o : Option Command) → IsFetched (fetched Q position chain o)
 fresh_of Q position chain None = tt
-fresh_of Q position chain (Some (command.Set mark op to a b c)) = tt
-fresh_of Q position chain (Some (command.Load mark kind memory to offset address)) = tt
-fresh_of Q position chain (Some (command.Store kind memory offset address value)) = tt
-fresh_of Q position chain (Some (command.Test cond one other)) = tt
-fresh_of Q position chain (Some (command.Jump to)) = tt
-fresh_of Q position chain (Some (command.Arg mark function index value)) = tt
 fresh_of Q position chain (Some (command.Call function)) = fresh_call Q function position chain (nat_lt (suc (length chain)) most_calls) _ _ tt refl
-fresh_of Q position chain (Some (command.Out mark index value)) = tt
-fresh_of Q position chain (Some command.Ret) = tt
 fresh_of Q position chain (Some (command.Trap kind)) = refl
+fresh_of Q position chain (Some _) = tt
 
 fresh_from : (Q : Program) (front : Front) (end : Option End) → IsFetched (fetched_from Q front end)
 fresh_from Q front None = fresh_of Q front.position front.chain (command_at Q front.position)

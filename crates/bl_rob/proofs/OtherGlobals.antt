@@ -63,16 +63,13 @@ module _ (program : Program) (globals : List GlobalDef) (same : length globals �
       let depth = suc (length chain) in
       both (λ x y. Straight (Store kind memory offset x y) (at_position (suc position) chain)) _ _ _ _ (source_same depth address) (source_same depth value)
   fetched_same position chain (Some (command.Test cond one other)) = ap (λ x. Branch x one.0 other.0) (source_same (suc (length chain)) cond)
-  fetched_same position chain (Some (command.Jump to)) = refl
   fetched_same position chain (Some (command.Arg mark function index value)) =
       let depth = suc (length chain) in
       both (λ n x. Straight (moved mark.protect (suc depth) n x) (at_position (suc position) chain)) _ _ _ _ (param_same function index) (source_same depth value)
-  fetched_same position chain (Some (command.Call function)) = refl
   fetched_same position chain (Some (command.Out mark index value)) =
       let depth = suc (length chain) in
       both (λ n x. Straight (moved mark.protect (length chain) n x) (at_position (suc position) chain)) _ _ _ _ (result_same _ index) (source_same depth value)
-  fetched_same position chain (Some command.Ret) = refl
-  fetched_same position chain (Some (command.Trap kind)) = refl
+  fetched_same position chain (Some _) = refl
 
   before_by : (front : Front) (end : Option End) → fetched_from with_globals front end ≡ fetched_from program front end
   before_by front None = fetched_same front.position front.chain (slice_get program.commands front.position)

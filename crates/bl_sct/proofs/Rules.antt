@@ -143,7 +143,6 @@ module _ (program : Program) (labelling : ℕ → Bool) (ok : KeepsLabelRules pr
       )
   labels_at p chain (Some (command.Test cond one other)) e =
       fine public program (suc (length chain)) cond (λ x n. public_sink p (command.Test cond one other) e x (inl n))
-  labels_at p chain (Some (command.Jump to)) e = tt
   labels_at p chain (Some (command.Arg mark function index value)) e = λ q.
       let k : Command = command.Arg mark function index value in
       (fine public program (suc (length chain)) value (λ x n. public_move p k e x (param program function index) (inl n) refl q), tt, tt)
@@ -151,8 +150,7 @@ module _ (program : Program) (labelling : ℕ → Bool) (ok : KeepsLabelRules pr
   labels_at p chain (Some (command.Out mark index value)) e = λ q.
       let k : Command = command.Out mark index value in
       (fine public program (suc (length chain)) value (λ x n. public_move p k e x (result program (running program p) index) (inl n) refl q), tt, tt)
-  labels_at p chain (Some command.Ret) e = tt
-  labels_at p chain (Some (command.Trap kind)) e = tt
+  labels_at p chain (Some _) e = tt
 
   labels_from : (front : Front) (end : Option End) → LabelsOf (fetched_from program front end)
   labels_from front None = labels_at front.position front.chain (command_at program front.position) refl

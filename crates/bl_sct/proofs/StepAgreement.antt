@@ -120,18 +120,12 @@ module _ (program : Program) where
   module _ (facts : IsProgram program) (rules : IsWellFormed program) (c : Config) (r : Reached program (plain_of c)) where
     inside_at : (o : Option Command) → command_at program c.front.position ≡ o → InsideOf c (fetched program c.front.position c.front.chain o)
     inside_at None e = tt
-    inside_at (Some (command.Set mark op to a b z)) e = tt
     inside_at (Some (command.Load mark kind memory to offset address)) e =
         lies c address memory offset (width_of kind) (width_some kind) (inside program facts rules (plain_of c) r (command.Load mark kind memory to offset address) e)
     inside_at (Some (command.Store kind memory offset address value)) e =
         lies c address memory offset (width_of kind) (width_some kind) (inside program facts rules (plain_of c) r (command.Store kind memory offset address value) e)
-    inside_at (Some (command.Test cond one other)) e = tt
-    inside_at (Some (command.Jump to)) e = tt
-    inside_at (Some (command.Arg mark function index value)) e = tt
     inside_at (Some (command.Call function)) e = inside_call c (nat_lt (suc (length c.front.chain)) most_calls) _ _ tt tt
-    inside_at (Some (command.Out mark index value)) e = tt
-    inside_at (Some command.Ret) e = tt
-    inside_at (Some (command.Trap kind)) e = tt
+    inside_at (Some _) e = tt
 
     pub inside_from : (end : Option End) → InsideOf c (fetched_from program c.front end)
     inside_from None = inside_at (command_at program c.front.position) refl

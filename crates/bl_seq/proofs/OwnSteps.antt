@@ -15,7 +15,7 @@ use Rattle.bl_cmd.specs.Programs.{IsProgram}
 use Rattle.bl_cmd.specs.Rules.{IsWellFormed, IsFunction, IsPassed, IsGuarded, Leaves}
 use Rattle.bl_cmd.specs.Steps.{Plain, depth, value_of, states, to, ret, perform, plain_step}
 use Rattle.bl_cmd.specs.declared.command.Command.{Command}
-use Rattle.bl_cmd.specs.declared.command.Command.TheVariants.{Set, Load, Test, Jump, Call, Ret, Trap}
+use Rattle.bl_cmd.specs.declared.command.Command.TheVariants.{Test, Jump, Call, Ret, Trap}
 use Rattle.bl_cmd.specs.declared.definitions.ProgramParts.{ProgramParts as Program}
 use Rattle.bl_seq.specs.OwnMemory.{HasSizes}
 
@@ -122,8 +122,6 @@ module _ (program : Program) (facts : IsProgram program) (rules : IsWellFormed p
 
     stands_by : (o : Option Command) → command_at program s.position ≡ o → IsNext (perform program o s) t → Stands program t
     stands_by None e h = absurd h
-    stands_by (Some (Set m op x a b c)) e h = on _ e (λ l. l) (ap (λ (x : Plain). x.position) h) (ap (λ (x : Plain). x.chain) h)
-    stands_by (Some (Load m kind k x offset a)) e h = on _ e (λ l. l) (ap (λ (x : Plain). x.position) h) (ap (λ (x : Plain). x.chain) h)
     stands_by (Some (Test cond one other)) e h =
         let targets = (rules.rule5 s.position f (Test cond one other) holds e).targets in
         tested one.0 other.0 (value_of program cond s % 2 ^ 32 == 0) (placed f one.0 (targets one.0 (inl refl))) (placed f other.0 (targets other.0 (inr refl))) h
@@ -202,8 +200,6 @@ module _ (program : Program) (facts : IsProgram program) (rules : IsWellFormed p
 
       came_by : (o : Option Command) → command_at program s.position ≡ o → IsNext (perform program o s) t → Came program q k t
       came_by None e h = absurd h
-      came_by (Some (Set m op x a b c)) e h = went_on (ap (λ (x : Plain). x.position) h)
-      came_by (Some (Load m kind j x offset a)) e h = went_on (ap (λ (x : Plain). x.position) h)
       came_by (Some (Test cond one other)) e h =
           came_tested (value_of program cond s % 2 ^ 32 == 0) one.0 other.0 (λ u. guarded.others s.position (Test cond one other) e (inl u)) (λ u. guarded.others s.position (Test cond one other) e (inr u)) h
       came_by (Some (Jump p)) e h = here (guarded.others s.position (Jump p) e (ap (λ (x : Plain). x.position) h ∙ is))
