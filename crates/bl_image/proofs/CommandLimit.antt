@@ -16,8 +16,8 @@ use Rattle.bl_cmd.specs.declared.definitions.SiteWeight.{SiteWeight}
 use Rattle.bl_cmd.specs.declared.definitions.ProgramParts.{ProgramParts as Program}
 use Rattle.bl_image.specs.declared.error.ImageError.{ImageError}
 use Rattle.bl_image.specs.declared.error.ImageError.TheVariants.{NotAnImage, IllFormed, Memory}
-use Rattle.bl_image.specs.Grammar.{each}
-use Rattle.bl_image.specs.Image.{command, Image}
+use Rattle.bl_format.specs.Grammar.{each}
+use Rattle.bl_format.specs.Image.{command, Image}
 use Rattle.bl_image.specs.ReaderAnswers.{BreaksOne, Fills, Fronts, IsLarge, IsPartsReason, IsReason, RefusesMany, Spells, alone, refusal_by, traps, with_commands}
 use Rattle.bl_image.proofs.Prefixes.{one_program}
 

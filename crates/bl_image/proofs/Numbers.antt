@@ -7,7 +7,7 @@ use Rattle.bl_leb.specs.Numbers.{IsUnsigned}
 use Rattle.bl_leb.specs.Spellings.{IsSpelledAt, IsShortest}
 use Rattle.bl_leb.proofs.Unsigned.{one_end, one_value, shortest_one}
 use Rattle.bl_leb.specs.Grammar.{Spellings, byte, given, exactly}
-use Rattle.bl_image.specs.Grammar.{u64}
+use Rattle.bl_format.specs.Grammar.{u64}
 use Rattle.bl_image.specs.ReaderAnswers.{Begins, NoneBegins}
 
 -- a number in its shortest spelling
