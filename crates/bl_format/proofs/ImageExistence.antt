@@ -51,7 +51,7 @@ use Rattle.bl_cmd.specs.declared.definitions.SiteWeight.{SiteWeight}
 use Rattle.bl_cmd.proofs.Layouts.{first_below, held_by, holds_within, number_is, own_exists, result_own}
 use Rattle.bl_cmd.specs.Widths.{HasByteWidths, HasConstants, HasWidth, HasWidths}
 use Rattle.bl_format.specs.Grammar.{each, each_after, gap, u32, u64, vec}
-use Rattle.bl_format.specs.Image.{Image, additions, command, command_code, definitions, demand, export, exports, fields, function, global, image, label, magic, mark, memory, operand, param, row, rows, value_type, weight, weights, label_code, type_code, version}
+use Rattle.bl_format.specs.Image.{Image, additions, command, command_code, definitions, demand, export, fields, function, global, image, label, magic, mark, memory, operand, param, row, value_type, weight, weights, label_code, type_code, version}
 use Rattle.bl_format.specs.WriterAnswers.{DefinitionsFit, FunctionFits, Rises}
 use Rattle.bl_format.proofs.SpellableParts.{additions_fit, definitions_fit, found_within, member, memory_fits, rows_few, site_within}
 

@@ -1,5 +1,5 @@
 -- How long spellings are, by the combinators of the grammar.
-use Rattle.std.proofs.Common.{◌≡◌, ◌<◌, ◌≤◌, ◌+◌, ◌-◌, ◌^◌, ◌/◌, ◌%◌, ◌⊎◌, inl, inr, ℕ, suc, List, [], ◌∷◌, ◌++◌, length, length-append, refl, sym, subst, arith}
+use Rattle.std.proofs.Common.{◌≡◌, ◌<◌, ◌≤◌, ◌+◌, ◌-◌, ◌^◌, ◌/◌, ◌%◌, ◌⊎◌, inl, inr, ℕ, List, [], ◌∷◌, ◌++◌, length-append, refl, sym, subst, arith}
 use Rattle.std.specs.Prelude.{min}
 use Rattle.bl_leb.specs.Grammar.{Spellings, ◌⨾◌, nothing, byte}
 use Rattle.bl_leb.specs.Numbers.{IsUnsigned}

@@ -1,5 +1,5 @@
 -- A well-formed program can be spelled.
-use Rattle.std.proofs.Common.{◌≡◌, inl, inr, ℕ, zero, suc, ◌+◌, ◌*◌, ◌^◌, ◌<◌, ◌≤◌, List, [], ◌∷◌, length, drop, slice_index_or, Option, slice_get, ap, sym, ◌∙◌, subst, arith, length-drop}
+use Rattle.std.proofs.Common.{◌≡◌, inl, inr, ℕ, zero, suc, ◌+◌, ◌*◌, ◌^◌, ◌<◌, ◌≤◌, List, [], ◌∷◌, length, drop, slice_index_or, Option, slice_get, ap, sym, subst, arith, length-drop}
 use Rattle.std.specs.Prelude.{IsSome, IsSomeAnd, option_map, option_and_then, unwrap_or}
 use Rattle.std.specs.List.{All, AllPairs}
 use Rattle.std.proofs.lemmas.Bool.{false≢true}
@@ -11,7 +11,7 @@ use Rattle.bl_cmd.specs.Programs.{IsProgram}
 use Rattle.bl_cmd.specs.Rules.{IsWellFormed, IsMemory, IsFunction, IsDemand, Precedes, Rule2, Rule6}
 use Rattle.bl_cmd.specs.Sites.{listed, mark_of}
 use Rattle.bl_cmd.specs.declared.command.Command.{Command}
-use Rattle.bl_cmd.specs.declared.command.Command.TheVariants.{Set, Load, Store, Test, Jump, Arg, Call, Out, Ret, Trap}
+use Rattle.bl_cmd.specs.declared.command.Command.TheVariants.{Set, Load, Arg, Out}
 use Rattle.bl_cmd.specs.declared.command.Mark.{Mark}
 use Rattle.bl_cmd.specs.declared.definitions.Demand.{Demand}
 use Rattle.bl_cmd.specs.declared.definitions.Demand.TheVariants.{Result, Global}
@@ -21,7 +21,7 @@ use Rattle.bl_cmd.specs.declared.definitions.FunctionDef.{FunctionDef}
 use Rattle.bl_cmd.specs.declared.definitions.MemRow.{MemRow}
 use Rattle.bl_cmd.specs.declared.definitions.MemoryDef.{MemoryDef}
 use Rattle.bl_cmd.specs.declared.definitions.ProgramParts.{ProgramParts as Program}
-use Rattle.bl_format.specs.WriterAnswers.{Rises, MemoryFits, FunctionFits, DefinitionsFit, AdditionsFit, CommandFits, MarkFits}
+use Rattle.bl_format.specs.WriterAnswers.{Rises, MemoryFits, DefinitionsFit, AdditionsFit, CommandFits, MarkFits}
 
 -- each is at most the sum
 pub member : {X : Type 0} (f : X → ℕ) (xs : List X) (k : ℕ) (d : X) → k < length xs → f (slice_index_or xs k d) ≤ sum_before f xs (length xs)

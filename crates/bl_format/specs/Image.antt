@@ -1,5 +1,5 @@
 -- The image of a program: its bytes.
-use Rattle.std.specs.Prelude.{◌≡◌, ℕ, ◌+◌, ◌≤◌, List, [], ◌∷◌, length, take, drop, if◌then◌else◌}
+use Rattle.std.specs.Prelude.{◌≡◌, ℕ, ◌+◌, List, [], ◌∷◌, length, take, drop, if◌then◌else◌}
 use Rattle.bl_base.specs.Trap.{trap_number as trap_code}
 use Rattle.bl_base.specs.declared.trap.Trap.{Trap as TrapKind}
 use Rattle.bl_base.specs.declared.names.Label.{Label}

@@ -1,7 +1,6 @@
 -- The operands of a Set: as many as its operator takes.
-use Rattle.std.proofs.Common.{◌≡◌, ℕ, ◌<◌, List, [], ◌∷◌, ◌++◌, append-nil, sym, ap, ap₂, ◌∙◌, refl, subst, arith}
-use Rattle.bl_ops.specs.declared.op.Op.{Op}
-use Rattle.bl_cmd.specs.Programs.{arity, ArePadded, IsZero, IsCommand}
+use Rattle.std.proofs.Common.{ℕ, List, ◌++◌, append-nil, sym, ap, ap₂, ◌∙◌, refl, subst, arith}
+use Rattle.bl_cmd.specs.Programs.{arity, IsCommand}
 use Rattle.bl_cmd.specs.declared.command.Operand.{Operand}
 use Rattle.bl_cmd.specs.declared.command.Operand.TheVariants.{Const}
 use Rattle.bl_leb.specs.Grammar.{Spellings, ◌⨾◌, nothing, given}

@@ -1,5 +1,5 @@
 -- Things that are read one after another.
-use Rattle.std.proofs.Common.{◌≡◌, ℕ, zero, suc, ◌+◌, ◌<◌, ◌≤◌, List, [], ◌∷◌, ◌++◌, length, append_assoc, append-nil, length-append, ap, ap₂, sym, ◌∙◌, refl, subst, arith}
+use Rattle.std.proofs.Common.{◌≡◌, ℕ, zero, suc, ◌+◌, ◌<◌, List, [], ◌∷◌, ◌++◌, length, append_assoc, append-nil, length-append, ap, ap₂, sym, ◌∙◌, refl, subst, arith}
 use Rattle.bl_leb.specs.Grammar.{Spellings, given}
 use Rattle.bl_format.specs.Grammar.{each, each_after}
 use Rattle.bl_format.proofs.Chains.{behind, one_more}

@@ -15,4 +15,4 @@ pub short_image : (program : Program) → IsProgram program → IsWellFormed pro
     → Image program bytes → length bytes ≤ limit_of quantity.Image
 short_image program facts well widths bytes small memories few is =
     let short = some_short_image program facts well widths small memories few in
-    subst (λ (t : List ℕ). length t ≤ limit_of quantity.Image) (one_image program short.0 bytes short.1 is) short.2.1
+    subst (λ (t : List ℕ). length t ≤ limit_of quantity.Image) (one_image program short.0 bytes short.1 is) short.2

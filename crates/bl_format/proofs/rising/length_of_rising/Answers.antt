@@ -1,4 +1,4 @@
-use Rattle.std.proofs.Common.{◌≡◌, ◌≤◌, ◌<◌, ◌^◌, ◌+◌, ◌-◌, ℕ, suc, take, drop, length, arith, sym, ap, ◌∙◌, subst}
+use Rattle.std.proofs.Common.{◌≡◌, ◌≤◌, ◌<◌, ◌^◌, ◌+◌, ◌-◌, ℕ, suc, take, length, arith, sym, ap, ◌∙◌, subst}
 use Rattle.bl_base.proofs.Lists.{rest_at}
 use Rattle.bl_leb.specs.Grammar.{◌⨾◌}
 use Rattle.bl_format.specs.Grammar.{gap}

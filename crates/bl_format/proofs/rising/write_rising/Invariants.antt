@@ -1,4 +1,4 @@
-use Rattle.std.proofs.Common.{◌≡◌, ◌≤◌, ◌^◌, suc, take, drop}
+use Rattle.std.proofs.Common.{◌≡◌, suc, take, drop}
 use Rattle.bl_leb.specs.Grammar.{◌⨾◌}
 use Rattle.bl_format.specs.Grammar.{gap, each_after}
 use Rattle.bl_format.specs.WriterAnswers.{Adds, Rises}

@@ -1,5 +1,4 @@
 use Rattle.std.proofs.Common.{◌≡◌, ◌≤◌, length, drop}
-use Rattle.bl_format.specs.Grammar.{each}
 use Rattle.bl_image.specs.ReaderAnswers.{Begins}
 use Rattle.bl_image.proofs.ReadChains.{counted}
 use Rattle.bl_image.proofs.read.read_each.Given as goal

@@ -1,4 +1,4 @@
-use Rattle.std.proofs.Common.{drop, sym, subst, arith}
+use Rattle.std.proofs.Common.{drop, arith}
 use Rattle.bl_leb.specs.Grammar.{byte}
 use Rattle.bl_format.specs.Grammar.{u64}
 use Rattle.bl_image.proofs.ReaderLemmas.{fails}

@@ -3,7 +3,7 @@ use Rattle.bl_leb.specs.Grammar.{Spellings, ◌⨾◌}
 use Rattle.bl_format.specs.Grammar.{gap}
 use Rattle.bl_image.specs.ReaderAnswers.{Begins}
 use Rattle.bl_image.proofs.ReaderLemmas.{passes}
-use Rattle.bl_format.proofs.Chains.{behind, behind_more}
+use Rattle.bl_format.proofs.Chains.{behind_more}
 use Rattle.bl_image.proofs.ReadChains.{counted, begins_more, none_more}
 use Rattle.bl_image.proofs.rising.read_rising.Goals as goal
 

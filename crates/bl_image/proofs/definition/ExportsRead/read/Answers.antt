@@ -1,4 +1,4 @@
-use Rattle.std.proofs.Common.{ℕ, drop, length, refl}
+use Rattle.std.proofs.Common.{drop, length, refl}
 use Rattle.bl_image.specs.declared.definition.Exports.{Exports}
 use Rattle.bl_format.specs.Grammar.{u64, each}
 use Rattle.bl_format.specs.Image.{exports, export}

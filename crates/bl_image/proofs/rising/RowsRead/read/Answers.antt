@@ -1,4 +1,4 @@
-use Rattle.std.proofs.Common.{ℕ, drop, length, refl}
+use Rattle.std.proofs.Common.{drop, length, refl}
 use Rattle.bl_image.specs.declared.rising.Rows.{Rows}
 use Rattle.bl_format.specs.Grammar.{u32, rising}
 use Rattle.bl_format.specs.Image.{rows, row}
