@@ -16,9 +16,10 @@ use Rattle.bl_link.specs.Links.{function, indexed, nothing, part_of, with_tree}
 use Rattle.bl_link.specs.Signatures.{signature}
 use Rattle.bl_cmd.specs.declared.definitions.ExportDef.{ExportDef}
 use Rattle.bl_cmd.specs.declared.definitions.FunctionDef.{FunctionDef}
-use Rattle.bl_image.specs.Image.{Image}
-use Rattle.bl_image.proofs.ImageExistence.{AreSmall, short_image}
-use Rattle.bl_image.proofs.ImageWidths.{image_widths}
+use Rattle.bl_format.specs.Image.{Image}
+use Rattle.bl_format.proofs.ImageExistence.{AreSmall}
+use Rattle.bl_image.proofs.ShortImages.{short_image}
+use Rattle.bl_format.proofs.ImageWidths.{image_widths}
 use Rattle.bl_lower.specs.Trees.{demanded_results, function_def, low_tree, params_by, results_by}
 use Rattle.bl_lower.proofs.WellFormed.{rules}
 use Rattle.bl_gen.proofs.SpelledModule.{spelled}

@@ -8,7 +8,7 @@ use Rattle.bl_cmd.specs.Outcomes.{first_memory, plain}
 use Rattle.bl_cmd.specs.Rules.{IsWellFormed}
 use Rattle.bl_cmd.specs.declared.definitions.MemoryDef.{MemoryDef}
 use Rattle.bl_cmd.specs.declared.definitions.ProgramParts.{ProgramParts as Program}
-use Rattle.bl_image.specs.Image.{Image}
+use Rattle.bl_format.specs.Image.{Image}
 use Rattle.bl_image.proofs.Prefixes.{one_program}
 use Rattle.bl_trace.specs.StartFiles.{answer_of}
 use Rattle.bl_cut.specs.Marks.{protected}

@@ -13,7 +13,7 @@ use Rattle.bl_wasm.specs.declared.linked.Signature.{Signature}
 use Rattle.bl_wasm.specs.declared.linked.Tree.{Tree}
 use Rattle.bl_reduce.specs.Outcomes.{first_store, source}
 use Rattle.bl_cmd.specs.Outcomes.{first_memories, plain}
-use Rattle.bl_image.specs.Image.{Image}
+use Rattle.bl_format.specs.Image.{Image}
 use Rattle.bl_image.proofs.Prefixes.{one_program}
 use Rattle.bl_lower.specs.Trees.{export_def, low_tree, memory_def, step_bound}
 use Rattle.bl_lower.proofs.DefinedFunctions.{IsDefined, has_type, is_defined}

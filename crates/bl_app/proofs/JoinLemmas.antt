@@ -9,7 +9,7 @@ use Rattle.bl_iface.specs.InterfaceFunctions.{Matches}
 use Rattle.bl_iface.specs.declared.iface.Iface.{Iface}
 use Rattle.bl_iface.proofs.JoinedTyping.{joined_flows, joint}
 use Rattle.bl_iface.proofs.JoinedWellFormed.{joined_well}
-use Rattle.bl_image.specs.Image.{Image}
+use Rattle.bl_format.specs.Image.{Image}
 use Rattle.bl_transient.specs.Transient.{Passes}
 use Rattle.bl_words.specs.Requests.{JoinRequest}
 use Rattle.bl_build.specs.BuildStages.{Built, IsSized}

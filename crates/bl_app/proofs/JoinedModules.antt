@@ -21,7 +21,7 @@ use Rattle.bl_reduce.specs.Runnable.{IsRunnable, runnable}
 use Rattle.bl_cmd.specs.Outcomes.{plain}
 use Rattle.bl_cmd.specs.declared.definitions.ProgramParts.{ProgramParts as Program}
 use Rattle.bl_counts.specs.RunCounts.{bare}
-use Rattle.bl_image.specs.Image.{Image}
+use Rattle.bl_format.specs.Image.{Image}
 use Rattle.bl_lower.specs.Trees.{low_tree, step_bound}
 use Rattle.bl_iface.specs.declared.iface.FnIface.{FnIface}
 use Rattle.bl_iface.specs.declared.iface.Iface.{Iface}

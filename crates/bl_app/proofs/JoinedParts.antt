@@ -11,7 +11,7 @@ use Rattle.bl_cmd.specs.declared.definitions.ProgramParts.{ProgramParts as Progr
 use Rattle.bl_cut.specs.Marks.{protected}
 use Rattle.bl_counts.specs.RunCounts.{bare}
 use Rattle.bl_counts.proofs.BarePrograms.{bare_protected}
-use Rattle.bl_image.specs.Image.{Image}
+use Rattle.bl_format.specs.Image.{Image}
 use Rattle.bl_image.proofs.Prefixes.{one_program}
 use Rattle.bl_lower.specs.Trees.{low_tree}
 use Rattle.bl_iface.specs.InterfaceFunctions.{Fits, IsMatched, Matches}

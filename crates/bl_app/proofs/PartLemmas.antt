@@ -13,7 +13,7 @@ use Rattle.bl_iface.specs.RoleTests.{asked}
 use Rattle.bl_iface.specs.declared.iface.FnIface.{FnIface}
 use Rattle.bl_iface.specs.declared.iface.Iface.{Iface}
 use Rattle.bl_iface.proofs.RoleTestLemmas.{as_from_under}
-use Rattle.bl_image.specs.Image.{Image}
+use Rattle.bl_format.specs.Image.{Image}
 use Rattle.bl_transient.specs.Transient.{PassesUnder, nothing}
 use Rattle.bl_words.specs.Requests.{PartRequest}
 use Rattle.bl_build.specs.BuildStages.{AreCompiled, Built, compiling}

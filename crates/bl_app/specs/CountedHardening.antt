@@ -7,7 +7,7 @@ use Rattle.bl_cmd.specs.Sites.{is_protected}
 use Rattle.bl_cmd.specs.declared.definitions.ProgramParts.{ProgramParts as Program}
 use Rattle.bl_graph.specs.Ranges.{AreSites}
 use Rattle.bl_transient.specs.Transient.{Passes}
-use Rattle.bl_image.specs.Image.{Image}
+use Rattle.bl_format.specs.Image.{Image}
 use Rattle.bl_lower.specs.Trees.{low_tree}
 use Rattle.bl_counts.specs.RunCounts.{IsFewer, bare, counts_of, executed, weighed as weighed_with}
 use Rattle.bl_build.specs.BuildStages.{Built, HasLongImage}

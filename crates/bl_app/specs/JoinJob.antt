@@ -9,7 +9,7 @@ use Rattle.bl_cmd.specs.Rules.{IsWellFormed}
 use Rattle.bl_cmd.specs.Sites.{is_protected}
 use Rattle.bl_cmd.specs.declared.definitions.ProgramParts.{ProgramParts as Program}
 use Rattle.bl_iface.specs.JoinedProgram.{joined}
-use Rattle.bl_image.specs.Image.{Image}
+use Rattle.bl_format.specs.Image.{Image}
 use Rattle.bl_outcome.specs.Lines.{line}
 use Rattle.bl_transient.specs.Transient.{Passes}
 use Rattle.bl_words.specs.Requests.{JoinRequest}

@@ -9,7 +9,7 @@ use Rattle.bl_iface.specs.InterfaceFunctions.{Matches}
 use Rattle.bl_iface.specs.Roles.{PassesAs}
 use Rattle.bl_iface.specs.RoleTests.{asked}
 use Rattle.bl_iface.specs.declared.iface.Iface.{Iface}
-use Rattle.bl_image.specs.Image.{Image}
+use Rattle.bl_format.specs.Image.{Image}
 use Rattle.bl_report.specs.Reports.{protects_text}
 use Rattle.bl_words.specs.Requests.{PartRequest}
 use Rattle.bl_app.specs.CompileJobs.{module_read}

@@ -7,7 +7,7 @@ ghost use Rattle.bl_wasm.specs.Linked.{IsLinked};
 ghost use Rattle.bl_wasm.specs.declared.linked.Tree.{Tree};
 ghost use Rattle.bl_lower.specs.Trees.{low_tree, step_bound};
 ghost use Rattle.bl_cmd.specs.declared.definitions.ProgramParts.{ProgramParts as Program};
-ghost use Rattle.bl_image.specs.Image.{Image};
+ghost use Rattle.bl_format.specs.Image.{Image};
 ghost use Rattle.bl_counts.specs.RecordedRuns.{AreAdded, Recorded, all_executed};
 ghost use Rattle.bl_counts.specs.RunCounts.{bare};
 ghost use Rattle.bl_report.specs.Verdicts.{safe_line};

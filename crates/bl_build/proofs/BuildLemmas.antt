@@ -12,7 +12,7 @@ use Rattle.bl_reduce.specs.Steps.{source_step}
 use Rattle.bl_cmd.specs.Outcomes.{opening}
 use Rattle.bl_cmd.specs.Steps.{plain_step}
 use Rattle.bl_cmd.specs.declared.definitions.ProgramParts.{ProgramParts as Program}
-use Rattle.bl_image.specs.Image.{Image}
+use Rattle.bl_format.specs.Image.{Image}
 use Rattle.bl_image.proofs.Prefixes.{one_image}
 use Rattle.bl_lower.specs.Trees.{low_tree}
 use Rattle.bl_lower.proofs.InitialStates.{ends_after, plain_ended}

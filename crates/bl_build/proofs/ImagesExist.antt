@@ -14,8 +14,8 @@ use Rattle.bl_cmd.specs.declared.definitions.MemRow.{MemRow}
 use Rattle.bl_cmd.specs.declared.definitions.MemoryDef.{MemoryDef}
 use Rattle.bl_cmd.specs.declared.definitions.SiteWeight.{SiteWeight}
 use Rattle.bl_cmd.specs.Widths.{HasWidths}
-use Rattle.bl_image.specs.Image.{Image}
-use Rattle.bl_image.proofs.ImageExistence.{some_image}
+use Rattle.bl_format.specs.Image.{Image}
+use Rattle.bl_format.proofs.ImageExistence.{some_image}
 use Rattle.bl_link.specs.Linkable.{AreFew, HasFewExports}
 use Rattle.bl_link.proofs.Exports.{of_links}
 use Rattle.bl_link.proofs.ModuleWidths.{few_exports}

@@ -24,7 +24,7 @@ use Rattle.bl_transient.specs.Verdicts.{IsBad, IsFirstBad}
 use Rattle.bl_transient.proofs.LeastTypings.{is_trans, least_typing, typing_trans}
 use Rattle.bl_cut.specs.Marks.{protected}
 use Rattle.bl_cut.proofs.MarkedPrograms.{is_program}
-use Rattle.bl_image.specs.Image.{Image}
+use Rattle.bl_format.specs.Image.{Image}
 use Rattle.bl_iface.specs.Answers.{IsFirstWithout}
 use Rattle.bl_iface.specs.Files.{IsFirstBadLine, Say, function_in}
 use Rattle.bl_iface.specs.JoinedProgram.{CanJoin, HasSameTypes, IsNew, IsWithin, is_named, joined, kept, sums}

@@ -18,9 +18,9 @@ use Rattle.bl_cmd.specs.declared.definitions.MemoryDef.{MemoryDef}
 use Rattle.bl_cmd.specs.declared.definitions.ProgramParts.{ProgramParts as Program}
 use Rattle.bl_cmd.specs.declared.definitions.SiteWeight.{SiteWeight}
 use Rattle.bl_cmd.specs.Widths.{HasConstants, HasWidth, HasWidths}
-use Rattle.bl_image.specs.Image.{Image}
-use Rattle.bl_image.proofs.ImageExistence.{some_image}
-use Rattle.bl_image.proofs.ImageWidths.{few_exports, image_widths}
+use Rattle.bl_format.specs.Image.{Image}
+use Rattle.bl_format.proofs.ImageExistence.{some_image}
+use Rattle.bl_format.proofs.ImageWidths.{few_exports, image_widths}
 use Rattle.bl_iface.specs.JoinedProgram.{CanJoin, Renaming, client_numbers, is_named, joined, kept, library_numbers, library_shift, moved_export, moved_weight, operand_by, renamed}
 use Rattle.bl_iface.specs.declared.iface.Iface.{Iface}
 use Rattle.bl_iface.proofs.JoinedWellFormed.{joined_is, joined_well}

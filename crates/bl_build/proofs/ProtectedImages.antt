@@ -8,8 +8,8 @@ use Rattle.bl_cmd.specs.declared.command.Command.{Command}
 use Rattle.bl_cmd.specs.declared.command.Command.TheVariants.{Set, Load, Arg, Out}
 use Rattle.bl_cmd.specs.declared.definitions.ProgramParts.{ProgramParts as Program}
 use Rattle.bl_leb.specs.Grammar.{Spellings, ◌⨾◌}
-use Rattle.bl_image.specs.Grammar.{each}
-use Rattle.bl_image.specs.Image.{Image, command, image, mark}
+use Rattle.bl_format.specs.Grammar.{each}
+use Rattle.bl_format.specs.Image.{Image, command, image, mark}
 use Rattle.bl_image.proofs.Prefixes.{one_image}
 use Rattle.bl_cut.specs.Marks.{guarded, marked, marked_from, protected}
 

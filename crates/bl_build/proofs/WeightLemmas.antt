@@ -11,8 +11,8 @@ use Rattle.bl_cmd.specs.Programs.{IsProgram}
 use Rattle.bl_cmd.specs.Rules.{IsWellFormed}
 use Rattle.bl_cmd.specs.declared.definitions.ProgramParts.{ProgramParts as Program}
 use Rattle.bl_cmd.specs.Widths.{HasWidths}
-use Rattle.bl_image.specs.Image.{Image}
-use Rattle.bl_image.proofs.ImageExistence.{some_image}
+use Rattle.bl_format.specs.Image.{Image}
+use Rattle.bl_format.proofs.ImageExistence.{some_image}
 use Rattle.bl_lower.specs.Trees.{low_tree}
 use Rattle.bl_lower.proofs.WellFormed.{facts, rules}
 use Rattle.bl_counts.specs.WeighAnswers.{Weighs}

@@ -3,7 +3,7 @@ use Rattle.std.specs.Prelude.{◌≡◌, ◌↔◌, ℕ, Bool, IsTrue, List}
 use Rattle.bl_cmd.specs.Rules.{IsWellFormed}
 use Rattle.bl_cmd.specs.Sites.{is_protected}
 use Rattle.bl_cmd.specs.declared.definitions.ProgramParts.{ProgramParts as Program}
-use Rattle.bl_image.specs.Image.{Image}
+use Rattle.bl_format.specs.Image.{Image}
 use Rattle.bl_graph.specs.Certificates.{Certifies}
 use Rattle.bl_graph.specs.declared.certificate.Certificate.{Certificate}
 use Rattle.bl_transient.specs.Transient.{Passes}

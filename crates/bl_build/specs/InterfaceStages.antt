@@ -16,7 +16,7 @@ use Rattle.bl_iface.specs.InterfaceFunctions.{IsMatched, Matches}
 use Rattle.bl_iface.specs.RoleTests.{IsFirstGiven, asked}
 use Rattle.bl_iface.specs.declared.error.IfaceError.TheVariants.{Line}
 use Rattle.bl_iface.specs.declared.iface.Iface.{Iface}
-use Rattle.bl_image.specs.Image.{Image}
+use Rattle.bl_format.specs.Image.{Image}
 use Rattle.bl_build.specs.BuildStages.{compiling}
 use Rattle.bl_build.specs.LoadStages.{Part}
 use Rattle.bl_job.specs.Refusals.{Refusal, refusal_of}

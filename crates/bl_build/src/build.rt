@@ -3,7 +3,7 @@ ghost use Rattle.std.specs.Prelude.{◌≡◌, ◌≤◌, IfOk, Some, length, ma
 ghost use Rattle.bl_base.specs.Quantity.{limit_of};
 ghost use Rattle.bl_base.specs.declared.quantity.Quantity.TheVariants as quantity;
 ghost use Rattle.bl_build.specs.BuildStages.{building, compiling, lowering, sizing, without_image};
-ghost use Rattle.bl_image.specs.Image.{Image};
+ghost use Rattle.bl_format.specs.Image.{Image};
 ghost use Rattle.bl_build.specs.LoadStages.{AreShort, parts_of};
 ghost use Rattle.bl_text.specs.Names.{AreNamedApart};
 ghost use Rattle.bl_build.specs.WeightStages.{building_by, compiling_by, counted_sources, weighing};

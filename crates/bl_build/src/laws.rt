@@ -12,7 +12,7 @@ ghost use Rattle.bl_transient.specs.declared.transient.FlowVerdict.{FlowVerdict}
 ghost use Rattle.bl_witness.specs.Texts.{certificate_text};
 ghost use Rattle.bl_witness.specs.Verdicts.{Checks};
 ghost use Rattle.bl_witness.specs.declared.verdict.CertVerdict.{CertVerdict};
-ghost use Rattle.bl_image.specs.Image.{Image};
+ghost use Rattle.bl_format.specs.Image.{Image};
 ghost use Rattle.bl_wasm.specs.Linked.{IsLinked};
 ghost use Rattle.bl_build.specs.BuildStages.{AreCompilable, compiling, lowering, sizing};
 ghost use Rattle.bl_build.specs.CertificateStages.{certifying, verifying};

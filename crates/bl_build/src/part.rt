@@ -5,7 +5,7 @@ ghost use Rattle.bl_base.specs.declared.quantity.Quantity.TheVariants as quantit
 ghost use Rattle.std.specs.FinSet as fin;
 ghost use Rattle.bl_cmd.specs.Sites.{is_protected, weight_of};
 ghost use Rattle.bl_cut.specs.Marks.{protected};
-ghost use Rattle.bl_image.specs.Image.{Image};
+ghost use Rattle.bl_format.specs.Image.{Image};
 ghost use Rattle.bl_build.specs.StageAnswers.{parted_in, refusal_of_choice};
 ghost use Rattle.bl_build.specs.InterfaceStages.{choosing, parting, side_of, siding};
 ghost use Rattle.bl_build.specs.LoadStages.{AreShort, parts_of};

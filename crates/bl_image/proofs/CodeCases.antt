@@ -15,7 +15,7 @@ use Rattle.bl_cmd.specs.declared.definitions.Demand.{Demand}
 use Rattle.bl_cmd.specs.declared.definitions.Demand.TheVariants as demands
 use Rattle.bl_cmd.specs.Programs.{IsCommand}
 use Rattle.bl_leb.specs.Grammar.{given}
-use Rattle.bl_image.specs.Image.{operand_code, demand_code, command_code, fields}
+use Rattle.bl_format.specs.Image.{operand_code, demand_code, command_code, fields}
 use Rattle.bl_image.specs.ReaderAnswers.{Begins, NoneBegins, Finds, fields_behind}
 use Rattle.bl_image.specs.declared.error.Malformed.{Malformed}
 use Rattle.bl_image.proofs.ReaderLemmas.{fails, begins_case, begins_given, none_case, none_given, none_unless}

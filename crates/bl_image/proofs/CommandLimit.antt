@@ -1,5 +1,5 @@
 -- Programs of more commands than the limit, and why an image is refused.
-use Rattle.std.proofs.Common.{◌≡◌, ℕ, zero, suc, ◌+◌, ◌<◌, ◌≤◌, List, [], ◌∷◌, ◌++◌, length, get_or, min, ap, sym, ◌∙◌, refl, subst, arith, length-append, Result, Ok, Err, IfOk, IfErr}
+use Rattle.std.proofs.Common.{◌≡◌, ℕ, zero, suc, ◌+◌, ◌<◌, ◌≤◌, List, [], ◌∷◌, ◌++◌, length, get_or, min, sym, ◌∙◌, refl, subst, arith, length-append, Result, Ok, Err, IfOk, IfErr}
 use Rattle.bl_base.specs.Quantity.{limit_of}
 use Rattle.bl_base.specs.declared.quantity.Quantity.TheVariants.{Commands}
 use Rattle.bl_base.specs.declared.trap.Trap.TheVariants.{Unreachable, DivideByZero, Overflow, OutOfBounds, UndefinedElement, UninitializedElement, TypeMismatch}
@@ -16,8 +16,8 @@ use Rattle.bl_cmd.specs.declared.definitions.SiteWeight.{SiteWeight}
 use Rattle.bl_cmd.specs.declared.definitions.ProgramParts.{ProgramParts as Program}
 use Rattle.bl_image.specs.declared.error.ImageError.{ImageError}
 use Rattle.bl_image.specs.declared.error.ImageError.TheVariants.{NotAnImage, IllFormed, Memory}
-use Rattle.bl_image.specs.Grammar.{each}
-use Rattle.bl_image.specs.Image.{command, Image}
+use Rattle.bl_format.specs.Grammar.{each}
+use Rattle.bl_format.specs.Image.{command, Image}
 use Rattle.bl_image.specs.ReaderAnswers.{BreaksOne, Fills, Fronts, IsLarge, IsPartsReason, IsReason, RefusesMany, Spells, alone, refusal_by, traps, with_commands}
 use Rattle.bl_image.proofs.Prefixes.{one_program}
 

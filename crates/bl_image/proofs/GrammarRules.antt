@@ -1,5 +1,5 @@
 -- The rules of the grammar of images, each with one spelling of one thing.
-use Rattle.std.proofs.Common.{◌≡◌, ℕ, zero, suc, ◌+◌, ◌<◌, ◌≤◌, Bool, true, false, List, [], ◌∷◌, ◌++◌, length, drop, take, Some, ap, ap₂, sym, ◌∙◌, refl, subst, arith}
+use Rattle.std.proofs.Common.{◌≡◌, ℕ, zero, suc, ◌+◌, ◌<◌, ◌≤◌, Bool, true, false, List, length, Some, ap, ap₂, sym, ◌∙◌, refl, arith}
 use Rattle.std.specs.Prelude.{nat_lt, if◌then◌else◌}
 use Rattle.std.proofs.lemmas.Bool.{ltb-true}
 use Rattle.std.proofs.lemmas.Option.{same_Some}
@@ -17,7 +17,6 @@ use Rattle.bl_ops.specs.declared.op.Op.{Op}
 use Rattle.bl_ops.specs.declared.op.Op.TheVariants.{Move}
 use Rattle.bl_ops.specs.OperatorTable.{image_code_of, image_operator_of}
 use Rattle.bl_cmd.specs.Programs.{arity, IsCommand}
-use Rattle.bl_cmd.specs.declared.command.Mark.{Mark}
 use Rattle.bl_cmd.specs.declared.command.Operand.{Operand}
 use Rattle.bl_cmd.specs.declared.command.Operand.TheVariants.{Var, Const}
 use Rattle.bl_cmd.specs.declared.command.Command.{Command}
@@ -32,11 +31,12 @@ use Rattle.bl_cmd.specs.declared.definitions.MemoryDef.{MemoryDef}
 use Rattle.bl_cmd.specs.declared.definitions.ParamDef.{ParamDef}
 use Rattle.bl_cmd.specs.declared.definitions.SiteWeight.{SiteWeight}
 use Rattle.bl_leb.specs.Grammar.{Spellings, ◌⨾◌, nothing, exactly, byte, given}
-use Rattle.bl_image.specs.Grammar.{each, u32, u64, vec}
-use Rattle.bl_image.specs.Image.{type_code, value_type, label_code, label, operand_code, operand_fields, operand, mark, operator, access, trap_kind, global, row, rows, memory, param, function, text, export, exports, demand_code, demand_fields, demand, weight, weights, command_code, fields, command}
+use Rattle.bl_format.specs.Grammar.{each, u32, u64, vec}
+use Rattle.bl_format.specs.Image.{type_code, value_type, label_code, label, operand_code, operand_fields, operand, mark, operator, access, trap_kind, global, row, rows, memory, param, function, text, export, exports, demand_code, demand_fields, demand, weight, weights, command_code, fields, command}
 use Rattle.bl_image.specs.ReaderAnswers.{operands_of}
-use Rattle.bl_image.proofs.CodeCases.{is_var, is_const, ResultParts, to_result, is_result, is_global, LoadParts, to_load, is_load, StoreParts, to_store, is_store, TestParts, to_test, is_test, is_jump, ArgParts, to_arg, is_arg, is_call, OutParts, to_out, is_out, is_ret, is_trap, Operands, SetParts, to_set, is_set}
-use Rattle.bl_image.proofs.Operands.{only_part, second_part, two, three, three_only, set_parts, set_spelled, set_from}
+use Rattle.bl_image.proofs.CodeCases.{is_var, is_const, to_result, is_result, is_global, LoadParts, to_load, is_load, StoreParts, to_store, is_store, TestParts, to_test, is_test, is_jump, ArgParts, to_arg, is_arg, is_call, OutParts, to_out, is_out, is_ret, is_trap, Operands, SetParts, to_set, is_set}
+use Rattle.bl_format.proofs.OperandLists.{second_part, three}
+use Rattle.bl_image.proofs.Operands.{only_part, two, three_only, set_parts, set_spelled, set_from}
 use Rattle.bl_image.proofs.UniqueSpellings.{IsUnique, unique_via, unique_from, unique_given, unique_after, unique_both, unique_pair, unique_case, unique_nothing, unique_byte, unique_code, unique_exactly, unique_u64, unique_u32, unique_each, unique_vec, unique_rising}
 use Rattle.bl_ops.proofs.AccessLemmas.{access_found}
 

@@ -1,15 +1,11 @@
-pub mod LengthLemmas
-pub mod WriterLemmas
 pub mod ReaderLemmas
 pub mod CodeCases
-pub mod Chains
-pub mod ImageExistence
-pub mod SpellableParts
+pub mod ReadChains
 pub mod GrammarRules
 pub mod CommandLimit
 pub mod Numbers
 pub mod Operands
 pub mod Prefixes
+pub mod ShortImages
 pub mod UniqueSpellings
 pub mod WholeImage
-pub mod ImageWidths

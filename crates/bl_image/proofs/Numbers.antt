@@ -1,13 +1,13 @@
 -- Numbers in their shortest spelling, and bytes as they stand.
-use Rattle.std.proofs.Common.{◌≡◌, ℕ, ◌+◌, ◌-◌, ◌<◌, ◌≤◌, ◌^◌, List, [], ◌∷◌, ◌++◌, length, take, drop, slice_range, append_assoc, ap, sym, ◌∙◌, refl, subst, arith, length-append, length-drop}
-use Rattle.std.proofs.lemmas.List.{take_at, drop_at, drop-drop}
+use Rattle.std.proofs.Common.{◌≡◌, ℕ, ◌+◌, ◌-◌, ◌<◌, ◌≤◌, List, [], ◌∷◌, ◌++◌, length, take, drop, slice_range, ap, sym, ◌∙◌, refl, subst, arith, length-append, length-drop}
+use Rattle.std.proofs.lemmas.List.{take_at}
 use Rattle.std.proofs.lemmas.List.Folds.{drop_split}
 use Rattle.bl_base.proofs.Lists.{front_same, rest_same}
 use Rattle.bl_leb.specs.Numbers.{IsUnsigned}
 use Rattle.bl_leb.specs.Spellings.{IsSpelledAt, IsShortest}
 use Rattle.bl_leb.proofs.Unsigned.{one_end, one_value, shortest_one}
-use Rattle.bl_leb.specs.Grammar.{Spellings, byte, given, exactly}
-use Rattle.bl_image.specs.Grammar.{u64}
+use Rattle.bl_leb.specs.Grammar.{byte, given, exactly}
+use Rattle.bl_format.specs.Grammar.{u64}
 use Rattle.bl_image.specs.ReaderAnswers.{Begins, NoneBegins}
 
 -- a number in its shortest spelling

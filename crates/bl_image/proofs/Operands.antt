@@ -1,13 +1,13 @@
 -- The operands of a Set: as many as its operator takes.
-use Rattle.std.proofs.Common.{◌≡◌, ℕ, ◌<◌, List, [], ◌∷◌, ◌++◌, append-nil, sym, ap, ap₂, ◌∙◌, refl, subst, arith}
-use Rattle.bl_ops.specs.declared.op.Op.{Op}
-use Rattle.bl_cmd.specs.Programs.{arity, ArePadded, IsZero, IsCommand}
+use Rattle.std.proofs.Common.{ℕ, List, ◌++◌, append-nil, sym, ap, ap₂, ◌∙◌, refl, subst, arith}
+use Rattle.bl_cmd.specs.Programs.{arity, IsCommand}
 use Rattle.bl_cmd.specs.declared.command.Operand.{Operand}
 use Rattle.bl_cmd.specs.declared.command.Operand.TheVariants.{Const}
 use Rattle.bl_leb.specs.Grammar.{Spellings, ◌⨾◌, nothing, given}
-use Rattle.bl_image.specs.Grammar.{u32}
-use Rattle.bl_image.specs.Image.{operand, operator, mark, command_code, fields}
+use Rattle.bl_format.specs.Grammar.{u32}
+use Rattle.bl_format.specs.Image.{operand, operator, mark, command_code, fields}
 use Rattle.bl_image.specs.ReaderAnswers.{Begins, NoneBegins, operands_of, fields_behind}
+use Rattle.bl_format.proofs.OperandLists.{last, second_part, three, three_last}
 use Rattle.bl_image.proofs.ReaderLemmas.{begins_via, none_via, begins_both, none_second, none_head, begins_case, none_case}
 use Rattle.bl_image.proofs.CodeCases.{Operands, SetParts, to_set, is_set}
 
@@ -16,15 +16,8 @@ abbrev pub zero_operand : Operand
 zero_operand = Const 0
 
 -- a last part
-pub last : (B : Spellings) (t : List ℕ) → B t → (B ⨾ nothing) t
-last B t h = record { front = t; rest = []; whole = sym (append-nil t); first = h; second = refl }
-
 pub only_part : (B : Spellings) (t : List ℕ) → (B ⨾ nothing) t → B t
 only_part B t h = subst B (sym (h.whole ∙ ap (λ r. h.front ++ r) h.second ∙ append-nil h.front)) h.first
-
--- the second of two parts by another
-pub second_part : (A B C : Spellings) (t : List ℕ) → ((s : List ℕ) → B s → C s) → (A ⨾ B) t → (A ⨾ C) t
-second_part A B C t along h = record { front = h.front; rest = h.rest; whole = h.whole; first = h.first; second = along h.rest h.second }
 
 -- one operand
 pub one_operand : (s r : List ℕ) (a : Operand) → Begins operand s a r → Begins (operands_of 1) s (a, (zero_operand, zero_operand)) r
@@ -50,12 +43,6 @@ pub no_two_operands : (s : List ℕ) → NoneBegins two s → NoneBegins (operan
 no_two_operands s p = none_via two (operands_of 2) s (λ y t h. ((y.0, y.1.0), second_part (operand y.0) (operand y.1.0 ⨾ nothing) (operand y.1.0) t (λ u. only_part (operand y.1.0) u) h.1)) p
 
 -- three operands
-abbrev pub three : Operands → Spellings
-three these = operand these.0 ⨾ operand these.1.0 ⨾ operand these.1.1
-
-pub three_last : (y : Operands) (t : List ℕ) → three y t → (operand y.0 ⨾ operand y.1.0 ⨾ operand y.1.1 ⨾ nothing) t
-three_last y t h = second_part (operand y.0) (operand y.1.0 ⨾ operand y.1.1) (operand y.1.0 ⨾ operand y.1.1 ⨾ nothing) t (λ u. second_part (operand y.1.0) (operand y.1.1) (operand y.1.1 ⨾ nothing) u (λ v. last (operand y.1.1) v)) h
-
 pub three_only : (y : Operands) (t : List ℕ) → (operand y.0 ⨾ operand y.1.0 ⨾ operand y.1.1 ⨾ nothing) t → three y t
 three_only y t h = second_part (operand y.0) (operand y.1.0 ⨾ operand y.1.1 ⨾ nothing) (operand y.1.0 ⨾ operand y.1.1) t (λ u. second_part (operand y.1.0) (operand y.1.1 ⨾ nothing) (operand y.1.1) u (λ v. only_part (operand y.1.1) v)) h
 

@@ -7,9 +7,9 @@ use Rattle.bl_cmd.specs.declared.definitions.FunctionDef.{FunctionDef}
 use Rattle.bl_cmd.specs.declared.definitions.ProgramParts.{ProgramParts as Program}
 use Rattle.bl_cmd.specs.declared.definitions.SiteWeight.{SiteWeight}
 use Rattle.bl_leb.specs.Grammar.{exactly, given}
-use Rattle.bl_image.specs.Image.{magic, header, version, additions, command, Image}
+use Rattle.bl_format.specs.Image.{magic, header, version, additions, command, Image}
 use Rattle.bl_image.specs.ReaderAnswers.{traps}
-use Rattle.bl_image.proofs.GrammarRules.{Defined, defined_parts, definitions_one, listed_parts, listed_one, command_one}
+use Rattle.bl_image.proofs.GrammarRules.{Defined, definitions_one, listed_parts, listed_one, command_one}
 use Rattle.bl_image.proofs.UniqueSpellings.{IsUnique, parted, unique_via, unique_from, unique_pair, unique_byte, unique_exactly, each_thing, each_bytes}
 use Rattle.bl_image.proofs.WholeImage.{traps_first}
 

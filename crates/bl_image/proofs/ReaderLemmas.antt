@@ -1,5 +1,5 @@
 -- What begins bytes, by the combinators of the grammar.
-use Rattle.std.proofs.Common.{◌≡◌, ℕ, ◌≤◌, List, ◌++◌, length, drop, append_assoc, ap, ap₂, sym, ◌∙◌, refl, subst, arith, Result, Ok, Err}
+use Rattle.std.proofs.Common.{◌≡◌, ℕ, ◌≤◌, List, ◌++◌, length, drop, append_assoc, ap, ap₂, sym, ◌∙◌, refl, subst, Result, Ok, Err}
 use Rattle.std.specs.Result.{IsErrAnd}
 use Rattle.std.proofs.lemmas.Result.{err_from_is_err_and}
 use Rattle.bl_leb.specs.Grammar.{Spellings, ◌⨾◌, byte, given}

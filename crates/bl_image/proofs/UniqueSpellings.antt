@@ -4,7 +4,7 @@ use Rattle.bl_base.proofs.Lists.{front_same, rest_same}
 use Rattle.bl_leb.proofs.Unsigned.{one_end, one_value, one_shortest}
 use Rattle.bl_leb.specs.Numbers.{IsUnsigned}
 use Rattle.bl_leb.specs.Grammar.{Spellings, ◌⨾◌, nothing, exactly, byte, given}
-use Rattle.bl_image.specs.Grammar.{each, each_after, u32, u64, vec, gap, rising}
+use Rattle.bl_format.specs.Grammar.{each, each_after, u32, u64, vec, gap, rising}
 
 -- where two spellings begin the same bytes they are of one thing, and the same rest stands behind them; and one thing has one
 -- spelling

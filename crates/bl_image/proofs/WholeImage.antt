@@ -21,11 +21,9 @@ use Rattle.bl_image.specs.declared.error.Malformed.{Malformed}
 use Rattle.bl_image.specs.declared.error.ReadError.{ReadError}
 use Rattle.bl_image.specs.declared.error.ReadError.TheVariants.{NotAnImage, Memory}
 use Rattle.bl_leb.specs.Grammar.{Spellings, ◌⨾◌, byte, given}
-use Rattle.bl_image.specs.Grammar.{each, vec}
-use Rattle.bl_image.specs.Image.{magic, header, version, definitions, additions, weights, demand, command, Image}
+use Rattle.bl_format.specs.Grammar.{each, vec}
+use Rattle.bl_format.specs.Image.{magic, header, version, definitions, additions, weights, demand, command, Image}
 use Rattle.bl_image.specs.ReaderAnswers.{Begins, NoneBegins, Finds, Fronts, ReadsAll, ReadsFront, Refuses, RefusesAll, RefusesProgram, additions_of, traps}
-use Rattle.bl_image.specs.WriterAnswers.{HasLength}
-use Rattle.bl_image.proofs.LengthLemmas.{byte_long, none_long, two}
 use Rattle.bl_image.proofs.ReaderLemmas.{begins_via, none_via, none_unless, finds_as}
 
 -- ---- the magic and the version
@@ -47,9 +45,6 @@ header_none bytes p = record {
       p.none y h.rest more h.second (ap (drop 4) whole);
 }
 
-pub header_long : (v : ℕ) → HasLength (header v) 5
-header_long v = two (record { bytes = magic; spelled = refl; counted = refl }) (byte_long v) refl
-
 pub finds_header : (bytes : List ℕ) (r : Result (ℕ × ℕ) Malformed) → bytes ≡ magic ++ drop 4 bytes → Finds byte bytes 4 r → Finds header bytes 0 r
 finds_header bytes r front h = finds_as byte header bytes 4 0 r (λ v m p. header_begins bytes m v front p) (header_none bytes) h
 
@@ -65,18 +60,6 @@ to_additions : (ds : List Demand) (ws : List SiteWeight) → version ds ws ≡ 2
 to_additions [] [] is t h = absurd (omega arith)
 to_additions [] (w ∷ ws) is t h = h
 to_additions (d ∷ ds) ws is t h = h
-
--- a version that isn't 1 is 2
-pub to_listed : (ds : List Demand) (ws : List SiteWeight) → (version ds ws ≡ 1 → ⊥) → (t : List ℕ) → (vec demand ds ⨾ weights ws) t → additions ds ws t
-to_listed [] [] never t h = absurd (never refl)
-to_listed [] (w ∷ ws) never t h = h
-to_listed (d ∷ ds) ws never t h = h
-
--- and of version 1 there is nothing
-pub none_listed : (ds : List Demand) (ws : List SiteWeight) → version ds ws ≡ 1 → HasLength (additions ds ws) 0
-none_listed [] [] is = none_long
-none_listed [] (w ∷ ws) is = absurd (omega arith)
-none_listed (d ∷ ds) ws is = absurd (omega arith)
 
 from_additions : (ds : List Demand) (ws : List SiteWeight) → version ds ws ≡ 2 → (t : List ℕ) → additions ds ws t → (vec demand ds ⨾ weights ws) t
 from_additions [] [] is t h = absurd (omega arith)

@@ -1,4 +1,1 @@
-pub mod Grammar
-pub mod Image
 pub mod ReaderAnswers
-pub mod WriterAnswers

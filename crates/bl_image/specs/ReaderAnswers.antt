@@ -13,8 +13,8 @@ use Rattle.bl_base.specs.declared.trap.Trap.TheVariants.{Unreachable, DivideByZe
 use Rattle.bl_image.specs.declared.rising.Weights.{Weights}
 use Rattle.bl_cmd.specs.declared.definitions.ProgramParts.{ProgramParts as Program}
 use Rattle.bl_leb.specs.Grammar.{Spellings, given}
-use Rattle.bl_image.specs.Grammar.{each}
-use Rattle.bl_image.specs.Image.{Image, image, additions, command, command_code, fields, operand, version}
+use Rattle.bl_format.specs.Grammar.{each}
+use Rattle.bl_format.specs.Image.{Image, image, additions, command, command_code, fields, operand, version}
 use Rattle.bl_image.specs.declared.decode.Found.{Found}
 use Rattle.bl_image.specs.declared.decode.Found.TheVariants.{Whole, Many}
 use Rattle.bl_image.specs.declared.error.Malformed.{Malformed}

@@ -1,17 +1,15 @@
-//! The image of a program: its bytes, written and read.
+//! The image of a program: its reader, and the laws on images.
 #![tactic(auto)]
 
 mod command;
 mod decode;
 mod definition;
 mod error;
-mod image;
 pub mod laws;
 mod read;
 mod rising;
 mod value;
-mod write;
 
+pub use bl_format::{encode, image_length};
 pub use decode::decode_image;
 pub use error::ImageError;
-pub use image::{encode, image_length};

@@ -1,8 +1,8 @@
 //! Readers of values that stand in images.
 ghost use Rattle.std.specs.Prelude.{◌≡◌, ◌≤◌, ◌<◌, ◌^◌, ℕ, List as Listed, length};
 ghost use Rattle.bl_leb.specs.Grammar.{◌⨾◌, given, exactly, byte};
-ghost use Rattle.bl_image.specs.Grammar.{each, vec, u32, u64};
-ghost use Rattle.bl_image.specs.Image.{text};
+ghost use Rattle.bl_format.specs.Grammar.{each, vec, u32, u64};
+ghost use Rattle.bl_format.specs.Image.{text};
 ghost use Rattle.bl_image.specs.ReaderAnswers.{Finds, Reads};
 
 use crate::error::{Malformed, ReadError};

@@ -2,8 +2,8 @@
 ghost use Rattle.std.specs.Prelude.{◌≡◌, ◌≤◌, length, IfSome, [], ◌∷◌};
 ghost use Rattle.bl_cmd.specs.declared.command.Mark.{Mark};
 ghost use Rattle.bl_leb.specs.Grammar.{byte};
-ghost use Rattle.bl_image.specs.Grammar.{u32};
-ghost use Rattle.bl_image.specs.Image.{value_type, label, operand, mark, operator, access, trap_kind};
+ghost use Rattle.bl_format.specs.Grammar.{u32};
+ghost use Rattle.bl_format.specs.Image.{value_type, label, operand, mark, operator, access, trap_kind};
 ghost use Rattle.bl_image.specs.ReaderAnswers.{Finds, Reads};
 
 use crate::error::{Malformed, ReadError};

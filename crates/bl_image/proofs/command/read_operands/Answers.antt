@@ -1,8 +1,9 @@
-use Rattle.std.proofs.Common.{◌≡◌, ℕ, drop, sym, subst, arith}
-use Rattle.bl_image.specs.Image.{operand}
-use Rattle.bl_image.specs.ReaderAnswers.{Finds, Begins, operands_of}
+use Rattle.std.proofs.Common.{◌≡◌, drop, arith}
+use Rattle.bl_format.specs.Image.{operand}
+use Rattle.bl_image.specs.ReaderAnswers.{operands_of}
 use Rattle.bl_image.proofs.ReaderLemmas.{fails, finds_as}
-use Rattle.bl_image.proofs.Operands.{zero_operand, one_operand, no_operand, two, two_operands, no_two_operands, three, three_operands, no_three_operands}
+use Rattle.bl_format.proofs.OperandLists.{three}
+use Rattle.bl_image.proofs.Operands.{one_operand, no_operand, two, two_operands, no_two_operands, three_operands, no_three_operands}
 use Rattle.bl_image.proofs.command.read_operands.Goals as goal
 
 pub returns-in_err-a-in-1 : goal.returns-in_err-a-in-1

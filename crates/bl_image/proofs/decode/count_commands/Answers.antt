@@ -1,7 +1,7 @@
 use Rattle.std.proofs.Common.{◌<◌, [], length, drop, length-drop, arith}
 use Rattle.std.proofs.lemmas.Result.{err_from_is_err_and}
-use Rattle.bl_image.specs.Image.{command}
-use Rattle.bl_image.proofs.Chains.{counted_further, counted_end, no_rest, shorter}
+use Rattle.bl_format.specs.Image.{command}
+use Rattle.bl_image.proofs.ReadChains.{counted_further, counted_end, no_rest, shorter}
 use Rattle.bl_image.proofs.WholeImage.{never_empty}
 use Rattle.bl_image.proofs.decode.count_commands.Goals as goal
 

@@ -1,6 +1,6 @@
 use Rattle.std.proofs.Common.{◌≤◌, ◌-◌, length, drop}
-use Rattle.bl_image.specs.Image.{command}
-use Rattle.bl_image.proofs.Chains.{Counted}
+use Rattle.bl_format.specs.Image.{command}
+use Rattle.bl_image.proofs.ReadChains.{Counted}
 use Rattle.bl_image.proofs.decode.count_commands.Given as goal
 
 abbrev pub decreases-loop-next : goal.decreases-loop-next

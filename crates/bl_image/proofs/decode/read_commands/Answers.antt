@@ -1,6 +1,6 @@
 use Rattle.std.proofs.Common.{◌<◌, length, drop, length-drop, length-append, ◌∷◌, [], arith}
-use Rattle.bl_image.specs.Image.{command}
-use Rattle.bl_image.proofs.Chains.{one_further, at_end, more_left, no_rest, shorter}
+use Rattle.bl_format.specs.Image.{command}
+use Rattle.bl_image.proofs.ReadChains.{one_further, at_end, more_left, no_rest, shorter}
 use Rattle.bl_image.proofs.WholeImage.{all_refused, never_empty}
 use Rattle.bl_image.proofs.decode.read_commands.Goals as goal
 

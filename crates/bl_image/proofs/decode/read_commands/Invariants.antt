@@ -1,6 +1,6 @@
 use Rattle.std.proofs.Common.{◌≡◌, ◌≤◌, ◌+◌, ◌-◌, length, drop}
-use Rattle.bl_image.specs.Image.{command}
-use Rattle.bl_image.proofs.Chains.{SoFar}
+use Rattle.bl_format.specs.Image.{command}
+use Rattle.bl_image.proofs.ReadChains.{SoFar}
 use Rattle.bl_image.proofs.decode.read_commands.Given as goal
 
 abbrev pub decreases-loop-place : goal.decreases-loop-place

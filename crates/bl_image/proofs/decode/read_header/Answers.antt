@@ -1,7 +1,7 @@
 use Rattle.std.proofs.Common.{refl, true}
 use Rattle.std.proofs.lemmas.Slice.Eq.{starts_is}
 use Rattle.std.proofs.lemmas.Bool.Decides.{Decides-eqb}
-use Rattle.bl_image.specs.Image.{magic}
+use Rattle.bl_format.specs.Image.{magic}
 use Rattle.bl_image.proofs.WholeImage.{finds_header}
 use Rattle.bl_image.proofs.decode.read_header.Goals as goal
 

@@ -1,5 +1,5 @@
 use Rattle.std.proofs.Common.{drop, ap₂, sym, ◌∙◌}
-use Rattle.bl_image.specs.Image.{version}
+use Rattle.bl_format.specs.Image.{version}
 use Rattle.bl_image.specs.ReaderAnswers.{additions_of}
 use Rattle.bl_image.proofs.ReaderLemmas.{passes}
 use Rattle.bl_image.proofs.WholeImage.{listed, listed_found, listed_none, listed_wrong}

@@ -1,7 +1,7 @@
 use Rattle.std.proofs.Common.{◌≡◌, ℕ, ◌+◌, ◌∷◌, [], length, drop, subst, arith, length-append, ap, ◌∙◌}
 use Rattle.bl_image.specs.ReaderAnswers.{Begins}
 use Rattle.bl_image.proofs.ReaderLemmas.{passes}
-use Rattle.bl_image.proofs.Chains.{counted, begins_more, none_more}
+use Rattle.bl_image.proofs.ReadChains.{counted, begins_more, none_more}
 use Rattle.bl_image.proofs.read.read_each.Goals as goal
 
 pub returns-in_err-thing : goal.returns-in_err-thing

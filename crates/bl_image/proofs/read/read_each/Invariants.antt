@@ -1,7 +1,6 @@
 use Rattle.std.proofs.Common.{◌≡◌, ◌≤◌, length, drop}
-use Rattle.bl_image.specs.Grammar.{each}
 use Rattle.bl_image.specs.ReaderAnswers.{Begins}
-use Rattle.bl_image.proofs.Chains.{counted}
+use Rattle.bl_image.proofs.ReadChains.{counted}
 use Rattle.bl_image.proofs.read.read_each.Given as goal
 
 abbrev pub invariant-loop : goal.invariant-loop

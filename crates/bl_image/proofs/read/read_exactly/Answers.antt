@@ -1,4 +1,4 @@
-use Rattle.std.proofs.Common.{◌∙◌, arith}
+use Rattle.std.proofs.Common.{arith}
 use Rattle.bl_image.proofs.Numbers.{bytes_found, bytes_none}
 use Rattle.bl_image.proofs.read.read_exactly.Goals as goal
 

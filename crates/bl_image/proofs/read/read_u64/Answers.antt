@@ -1,6 +1,6 @@
-use Rattle.std.proofs.Common.{drop, sym, subst, arith}
+use Rattle.std.proofs.Common.{drop, arith}
 use Rattle.bl_leb.specs.Grammar.{byte}
-use Rattle.bl_image.specs.Grammar.{u64}
+use Rattle.bl_format.specs.Grammar.{u64}
 use Rattle.bl_image.proofs.ReaderLemmas.{fails}
 use Rattle.bl_image.proofs.Numbers.{number_of_byte, number_of_none}
 use Rattle.bl_image.proofs.read.read_u64.Goals as goal

@@ -1,6 +1,6 @@
 use Rattle.std.proofs.Common.{drop}
 use Rattle.bl_leb.specs.Grammar.{◌⨾◌}
-use Rattle.bl_image.specs.Grammar.{gap}
+use Rattle.bl_format.specs.Grammar.{gap}
 use Rattle.bl_image.proofs.ReaderLemmas.{fails, none_head, finds_after}
 use Rattle.bl_image.proofs.rising.read_next.Goals as goal
 

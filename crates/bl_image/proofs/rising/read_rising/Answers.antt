@@ -1,9 +1,10 @@
 use Rattle.std.proofs.Common.{◌≡◌, ℕ, suc, ◌+◌, ◌<◌, ◌^◌, ◌∷◌, [], length, drop, subst, sym, arith, length-append, ap, ◌∙◌}
 use Rattle.bl_leb.specs.Grammar.{Spellings, ◌⨾◌}
-use Rattle.bl_image.specs.Grammar.{gap}
+use Rattle.bl_format.specs.Grammar.{gap}
 use Rattle.bl_image.specs.ReaderAnswers.{Begins}
 use Rattle.bl_image.proofs.ReaderLemmas.{passes}
-use Rattle.bl_image.proofs.Chains.{behind, behind_more, counted, begins_more, none_more}
+use Rattle.bl_format.proofs.Chains.{behind_more}
+use Rattle.bl_image.proofs.ReadChains.{counted, begins_more, none_more}
 use Rattle.bl_image.proofs.rising.read_rising.Goals as goal
 
 abbrev step : {A : Type 0} → (A → ℕ) → ℕ → A → ℕ

@@ -1,8 +1,9 @@
 use Rattle.std.proofs.Common.{◌≡◌, ◌≤◌, ◌^◌, suc, length, drop}
 use Rattle.bl_leb.specs.Grammar.{◌⨾◌}
-use Rattle.bl_image.specs.Grammar.{gap}
+use Rattle.bl_format.specs.Grammar.{gap}
 use Rattle.bl_image.specs.ReaderAnswers.{Begins}
-use Rattle.bl_image.proofs.Chains.{behind, counted}
+use Rattle.bl_format.proofs.Chains.{behind}
+use Rattle.bl_image.proofs.ReadChains.{counted}
 use Rattle.bl_image.proofs.rising.read_rising.Given as goal
 
 abbrev pub invariant-loop : goal.invariant-loop

@@ -1,10 +1,9 @@
 use Rattle.std.proofs.Common.{drop, sym, ◌∙◌}
-use Rattle.bl_cmd.specs.declared.definitions.Demand.TheVariants.{Result, Global}
-use Rattle.bl_leb.specs.Grammar.{byte, given, ◌⨾◌}
-use Rattle.bl_image.specs.Grammar.{u32}
-use Rattle.bl_image.specs.Image.{demand, demand_code, demand_fields}
+use Rattle.bl_cmd.specs.declared.definitions.Demand.TheVariants.{Global}
+use Rattle.bl_leb.specs.Grammar.{byte}
+use Rattle.bl_format.specs.Image.{demand, demand_code, demand_fields}
 use Rattle.bl_image.proofs.ReaderLemmas.{fails, none_head, none_after, none_case, begins_coded}
-use Rattle.bl_image.proofs.CodeCases.{ResultParts, to_result, is_result, is_global}
+use Rattle.bl_image.proofs.CodeCases.{to_result, is_result, is_global}
 use Rattle.bl_image.proofs.definition.DemandFind.find.Goals as goal
 
 pub returns-in_err-code : goal.returns-in_err-code

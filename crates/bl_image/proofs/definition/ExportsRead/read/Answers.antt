@@ -1,7 +1,7 @@
-use Rattle.std.proofs.Common.{ℕ, drop, length, refl}
+use Rattle.std.proofs.Common.{drop, length, refl}
 use Rattle.bl_image.specs.declared.definition.Exports.{Exports}
-use Rattle.bl_image.specs.Grammar.{u64, each}
-use Rattle.bl_image.specs.Image.{exports, export}
+use Rattle.bl_format.specs.Grammar.{u64, each}
+use Rattle.bl_format.specs.Image.{exports, export}
 use Rattle.bl_image.proofs.ReaderLemmas.{begins_after, begins_from}
 use Rattle.bl_image.proofs.definition.ExportsRead.read.Goals as goal
 

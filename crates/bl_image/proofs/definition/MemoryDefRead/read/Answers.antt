@@ -2,7 +2,7 @@ use Rattle.std.proofs.Common.{refl, ℕ}
 use Rattle.bl_base.specs.declared.names.Label.{Label}
 use Rattle.bl_cmd.specs.declared.definitions.MemoryDef.{MemoryDef}
 use Rattle.bl_image.specs.declared.rising.Rows.{Rows}
-use Rattle.bl_image.specs.Image.{memory}
+use Rattle.bl_format.specs.Image.{memory}
 use Rattle.bl_image.proofs.ReaderLemmas.{parts_passes, parts_read}
 use Rattle.bl_image.proofs.definition.MemoryDefRead.read.Goals as goal
 

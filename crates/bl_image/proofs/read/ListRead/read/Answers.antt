@@ -1,6 +1,6 @@
 use Rattle.std.proofs.Common.{◌≡◌, ℕ, length, subst}
 use Rattle.bl_leb.specs.Grammar.{given}
-use Rattle.bl_image.specs.Grammar.{u32, each}
+use Rattle.bl_format.specs.Grammar.{u32, each}
 use Rattle.bl_image.specs.ReaderAnswers.{Reads}
 use Rattle.bl_image.proofs.ReaderLemmas.{reads_after}
 use Rattle.bl_image.proofs.read.ListRead.read.Goals as goal

@@ -1,6 +1,6 @@
 use Rattle.std.proofs.Common.{length}
 use Rattle.bl_leb.specs.Grammar.{exactly}
-use Rattle.bl_image.specs.Grammar.{u64}
+use Rattle.bl_format.specs.Grammar.{u64}
 use Rattle.bl_image.proofs.ReaderLemmas.{reads_after}
 use Rattle.bl_image.proofs.read.TextRead.read.Goals as goal
 

@@ -1,7 +1,7 @@
-use Rattle.std.proofs.Common.{ℕ, drop, length, refl}
+use Rattle.std.proofs.Common.{drop, length, refl}
 use Rattle.bl_image.specs.declared.rising.Rows.{Rows}
-use Rattle.bl_image.specs.Grammar.{u32, rising}
-use Rattle.bl_image.specs.Image.{rows, row}
+use Rattle.bl_format.specs.Grammar.{u32, rising}
+use Rattle.bl_format.specs.Image.{rows, row}
 use Rattle.bl_image.proofs.ReaderLemmas.{begins_after, begins_from}
 use Rattle.bl_image.proofs.rising.RowsRead.read.Goals as goal
 

@@ -1,6 +1,6 @@
 use Rattle.std.proofs.Common.{drop}
 use Rattle.bl_ops.specs.Access.{access_code}
-use Rattle.bl_image.specs.Image.{access}
+use Rattle.bl_format.specs.Image.{access}
 use Rattle.bl_leb.specs.Grammar.{byte}
 use Rattle.bl_image.proofs.ReaderLemmas.{fails, none_via}
 use Rattle.bl_image.proofs.value.AccessKindFind.find.Goals as goal

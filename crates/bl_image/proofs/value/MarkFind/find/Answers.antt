@@ -1,5 +1,5 @@
 use Rattle.std.proofs.Common.{drop, ◌+◌, if◌then◌else◌}
-use Rattle.bl_image.specs.Image.{mark}
+use Rattle.bl_format.specs.Image.{mark}
 use Rattle.bl_leb.specs.Grammar.{byte}
 use Rattle.bl_image.proofs.ReaderLemmas.{fails, none_via}
 use Rattle.bl_image.proofs.value.MarkFind.find.Goals as goal

@@ -1,6 +1,6 @@
 use Rattle.std.proofs.Common.{drop}
 use Rattle.bl_ops.specs.OperatorTable.{image_code_of}
-use Rattle.bl_image.specs.Image.{operator}
+use Rattle.bl_format.specs.Image.{operator}
 use Rattle.bl_leb.specs.Grammar.{byte}
 use Rattle.bl_image.proofs.ReaderLemmas.{fails, none_via}
 use Rattle.bl_image.proofs.value.OpFind.find.Goals as goal

@@ -1,8 +1,7 @@
 use Rattle.std.proofs.Common.{drop, sym, ◌∙◌}
 use Rattle.bl_cmd.specs.declared.command.Operand.TheVariants.{Var, Const}
 use Rattle.bl_leb.specs.Grammar.{byte}
-use Rattle.bl_image.specs.Grammar.{u32, u64}
-use Rattle.bl_image.specs.Image.{operand, operand_code, operand_fields}
+use Rattle.bl_format.specs.Image.{operand, operand_code, operand_fields}
 use Rattle.bl_image.proofs.ReaderLemmas.{fails, none_head, begins_coded}
 use Rattle.bl_image.proofs.CodeCases.{is_var, is_const}
 use Rattle.bl_image.proofs.value.OperandFind.find.Goals as goal

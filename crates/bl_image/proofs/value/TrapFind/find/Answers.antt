@@ -1,6 +1,6 @@
 use Rattle.std.proofs.Common.{drop}
 use Rattle.bl_base.specs.Trap.{trap_number as trap_code}
-use Rattle.bl_image.specs.Image.{trap_kind}
+use Rattle.bl_format.specs.Image.{trap_kind}
 use Rattle.bl_leb.specs.Grammar.{byte}
 use Rattle.bl_image.proofs.ReaderLemmas.{fails, none_via}
 use Rattle.bl_image.proofs.value.TrapFind.find.Goals as goal

@@ -1,5 +1,5 @@
 use Rattle.std.proofs.Common.{drop}
-use Rattle.bl_image.specs.Image.{value_type, type_code}
+use Rattle.bl_format.specs.Image.{value_type, type_code}
 use Rattle.bl_leb.specs.Grammar.{byte}
 use Rattle.bl_image.proofs.ReaderLemmas.{fails, none_via}
 use Rattle.bl_image.proofs.value.ValueTypeFind.find.Goals as goal

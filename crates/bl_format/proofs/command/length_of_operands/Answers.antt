@@ -1,0 +1,20 @@
+use Rattle.std.proofs.Common.{◌≡◌, arith}
+use Rattle.bl_leb.specs.Grammar.{◌⨾◌, nothing}
+use Rattle.bl_format.specs.Image.{operand}
+use Rattle.bl_format.proofs.OperandLists.{last, second_part, three_last}
+use Rattle.bl_format.proofs.LengthLemmas.{long_as}
+use Rattle.bl_format.proofs.command.length_of_operands.Goals as goal
+
+pub returns-in-1 : goal.returns-in-1
+returns-in-1 c = rw c.in-1.is (long_as (last (operand c.args.a)) c.spelled_length.ensures)
+
+pub returns-in-2 : goal.returns-in-2
+returns-in-2 c =
+    let a = operand c.args.a in
+    let b = operand c.args.b in
+    rw c.in-2.is (long_as (λ t. second_part a b (b ⨾ nothing) t (last b)) c.spelled_length-in-2.ensures)
+
+pub returns-in_default : goal.returns-in_default
+returns-in_default c =
+    let is : c.args.count ≡ 3 = omega arith in
+    rw is (long_as (three_last (c.args.a, (c.args.b, c.args.c))) c.spelled_length-in_default.ensures)

@@ -1,0 +1,5 @@
+use Rattle.bl_format.proofs.WriterLemmas.{seq}
+use Rattle.bl_format.proofs.image.write_definitions.Goals as goal
+
+pub returns : goal.returns
+returns c = seq c.in_ok-write.ensures (seq c.in_ok-write-2.ensures (seq c.in_ok-write-3.ensures c.in_ok-write_exports.ensures))

@@ -1,5 +1,0 @@
-use Rattle.bl_image.proofs.WriterLemmas.{seq}
-use Rattle.bl_image.proofs.definition.FunctionDefWrite.write.Goals as goal
-
-pub returns : goal.returns
-returns c = seq c.in_ok-write.ensures (seq c.in_ok-write-2.ensures (seq c.in_ok-write-3.ensures c.in_ok-write-4.ensures))

@@ -1,5 +1,0 @@
-use Rattle.bl_image.proofs.WriterLemmas.{seq}
-use Rattle.bl_image.proofs.definition.GlobalDefWrite.write.Goals as goal
-
-pub returns : goal.returns
-returns c = seq c.in_ok-write.ensures (seq c.in_ok-write-2.ensures c.in_ok-write_u64.ensures)

@@ -1,5 +1,0 @@
-use Rattle.bl_image.proofs.ImageExistence.{some_bytes}
-use Rattle.bl_image.proofs.laws.programs_have_images.Goals as goal
-
-pub returns : goal.returns
-returns c = some_bytes

@@ -1,5 +1,0 @@
-use Rattle.bl_image.proofs.LengthLemmas.{byte_long, long_as}
-use Rattle.bl_image.proofs.write.MarkWrite.spelled_length.Goals as goal
-
-pub returns : goal.returns
-returns c = long_as (λ t h. (c.requires, h)) (byte_long _)
