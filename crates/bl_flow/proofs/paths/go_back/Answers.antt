@@ -1,6 +1,6 @@
-use Rattle.std.proofs.Common.{arith, ◌≡◌, ◌<◌, ◌++◌, ◌∷◌, [], false, length, set, sym, ap, ◌∙◌}
+use Rattle.std.proofs.Common.{arith, ◌≡◌, ◌<◌, ◌+◌, ◌*◌, ◌++◌, ◌∷◌, [], false, length, set, sym, ap, ◌∙◌}
 use Rattle.bl_flow.specs.Split.{link_at}
-use Rattle.bl_flow.specs.AdjacencyLists.{reversed}
+use Rattle.bl_flow.specs.SplitNetworks.{rows_in}
 use Rattle.bl_flow.specs.Traces.{OnTrace, on_trail}
 use Rattle.bl_flow.proofs.TraceLemmas.{brings, steps_back, off_trail}
 use Rattle.bl_flow.proofs.paths.go_back.Goals as goal
@@ -9,18 +9,18 @@ use Rattle.bl_flow.proofs.paths.go_back.Goals.{In_ok-push}
 pub next_carrying-link-requires-clause-some : goal.next_carrying-link-requires-clause-some
 next_carrying-link-requires-clause-some c =
     let halves = c.requires.halves in
-    brings c.args.links.now (length c.args.carries.now) c.args.carries.now (reversed (length c.args.carries.now) c.args.rows.now) c.args.root c.args.end c.loop-at.at c.requires.rows_hold (omega arith) c.requires.fed c.loop-at-test.true
+    brings c.args.split.now.links (length c.args.carries.now) c.args.carries.now (rows_in c.args.split.now) (2 * c.args.split.now.nodes) (2 * c.args.split.now.nodes + 1) c.loop-at.at c.requires.linked.rows_in_ (omega arith) c.requires.fed c.loop-at-test.true
     c.loop-at.places c.loop-at.trail.items c.loop-at.invariant.trace
 
-step : (c : In_ok-push) → OnTrace c.args.links.now (length c.args.carries.now) c.args.carries.now (set c.loop-at.places c.loop-at.at c.in_ok-place.place) (c.loop-at.trail.items ++ c.next_carrying-link.result ∷ []) c.args.end (link_at c.args.links.now c.next_carrying-link.result).from
-    × (c.next_carrying-link.result < length c.args.links.now)
-    × (off_trail c.args.links.now (set c.loop-at.places c.loop-at.at c.in_ok-place.place) (c.loop-at.trail.items ++ c.next_carrying-link.result ∷ []) (length c.args.rows.now) < off_trail c.args.links.now c.loop-at.places c.loop-at.trail.items (length c.args.rows.now))
+step : (c : In_ok-push) → OnTrace c.args.split.now.links (length c.args.carries.now) c.args.carries.now (set c.loop-at.places c.loop-at.at c.in_ok-place.place) (c.loop-at.trail.items ++ c.next_carrying-link.result ∷ []) (2 * c.args.split.now.nodes + 1) (link_at c.args.split.now.links c.next_carrying-link.result).from
+    × (c.next_carrying-link.result < length c.args.split.now.links)
+    × (off_trail c.args.split.now.links (set c.loop-at.places c.loop-at.at c.in_ok-place.place) (c.loop-at.trail.items ++ c.next_carrying-link.result ∷ []) (length c.args.split.now.rows) < off_trail c.args.split.now.links c.loop-at.places c.loop-at.trail.items (length c.args.split.now.rows))
 step c =
-    let fresh : on_trail c.args.links.now c.loop-at.trail.items c.loop-at.places c.loop-at.at ≡ false = ap (λ w. on_trail c.args.links.now w c.loop-at.places c.loop-at.at) (sym c.deref.ensures.value) ∙ sym c.is_on.ensures ∙ c.if-not-is_on.true in
+    let fresh : on_trail c.args.split.now.links c.loop-at.trail.items c.loop-at.places c.loop-at.at ≡ false = ap (λ w. on_trail c.args.split.now.links w c.loop-at.places c.loop-at.at) (sym c.deref.ensures.value) ∙ sym c.is_on.ensures ∙ c.if-not-is_on.true in
     let places = c.requires.places_in in let auto = c.loop-at.auto.places in let inside = c.loop-at.invariant.inside in
     let len : c.in_ok-place.place ≡ length c.loop-at.trail.items = c.in_ok-place.ensures.number ∙ (let e = c.len.ensures in let ok = c.loop-at.trail.ok.0 in omega arith) in
-    steps_back c.args.links.now c.args.carries.now (reversed (length c.args.carries.now) c.args.rows.now) c.args.end c.loop-at.places c.loop-at.trail.items c.loop-at.at c.next_carrying-link.result c.in_ok-place.place (length c.args.rows.now)
-    c.requires.rows_hold c.loop-at.invariant.trace fresh (omega arith) inside c.next_carrying-link.ensures.link c.next_carrying-link.ensures.some len
+    steps_back c.args.split.now.links c.args.carries.now (rows_in c.args.split.now) (2 * c.args.split.now.nodes + 1) c.loop-at.places c.loop-at.trail.items c.loop-at.at c.next_carrying-link.result c.in_ok-place.place (length c.args.split.now.rows)
+    c.requires.linked.rows_in_ c.loop-at.invariant.trace fresh (omega arith) inside c.next_carrying-link.ensures.link c.next_carrying-link.ensures.some len
 
 pub loop-at-smaller : goal.loop-at-smaller
 loop-at-smaller c = rw c.in_ok-push.ensures.items (step c).2
@@ -29,7 +29,7 @@ pub loop-at-preserved : goal.loop-at-preserved
 loop-at-preserved c =
     let one = step c in
     rw (c.in_ok-push.ensures.items, c.link-from.ensures) (record {
-      inside = c.requires.froms c.next_carrying-link.result one.1;
+      inside = c.requires.linked.froms c.next_carrying-link.result one.1;
       passed_ = c.next_carrying-link.ensures.passed;
       trace = one.0;
     })
