@@ -7,6 +7,7 @@ use Rattle.bl_flow.specs.Split.{links_of, both_ways, link_at}
 use Rattle.bl_flow.specs.AdjacencyLists.{reversed}
 use Rattle.bl_flow.specs.Searches.{AreRows}
 use Rattle.bl_flow.specs.Levels.{AreRowsIn}
+use Rattle.bl_flow.specs.Traces.{ArePassedOver}
 
 -- for each part the links to it
 abbrev pub rows_in : SplitNetwork → List (List ℕ)
@@ -29,3 +30,9 @@ pub record IsLinked (split : SplitNetwork) : Type 0 where
   pub rows_in_ : AreRowsIn split.links (rows_in split)
   pub froms : (k : ℕ) → k < length split.links → (link_at split.links k).from < length split.rows
   pub tos : (k : ℕ) → k < length split.links → (link_at split.links k).to < length split.rows
+
+-- how many links to each part are passed, which carry nothing, and room for the place of each part on a trail
+pub record IsTracing (split : SplitNetwork) (carries passed places : List ℕ) : Type 0 where
+  pub passed_in : length passed ≡ length split.rows
+  pub places_in : length places ≡ length split.rows
+  pub over : ArePassedOver carries (rows_in split) passed

@@ -1,4 +1,4 @@
-use Rattle.std.proofs.Common.{arith, ◌+◌, length, slice_index, sym, ◌∙◌, refl}
+use Rattle.std.proofs.Common.{arith, ◌+◌, slice_index, sym, ◌∙◌, refl}
 use Rattle.std.proofs.lemmas.Bool.{false≢true}
 use Rattle.std.proofs.lemmas.List.{get_or_default, get_or-set_same}
 use Rattle.bl_flow.specs.Searches.{part_row}
