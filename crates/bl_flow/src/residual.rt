@@ -141,7 +141,7 @@ fn lower(level: Option<u32>) -> Option<u64>
 /// the levels are those of the residual network. Want of memory is the only error, and gives the network back as it was.
 pub fn advance(
     alloc: Global,
-    r: Residual,
+    mut r: Residual,
     levels: &[Option<u64>],
 ) -> Result<(Residual, u64), (Residual, NoMemory)>
     requires { AreLevelsOf r levels.now }
@@ -155,31 +155,13 @@ pub fn advance(
     if !reaches_an_end(&r.network, levels) {
         return Ok((r, 0));
     }
-    let Residual {
-        network,
-        split,
-        mut capacities,
-        amount,
-    } = r;
-    match flow_on(alloc, &split, &mut capacities, amount) {
+    match flow_on(alloc, &r.split, &mut r.capacities, r.amount) {
         Ok(now) => {
-            let r = Residual {
-                network,
-                split,
-                capacities,
-                amount: now,
-            };
-            Ok((r, now - amount))
+            let more = now - r.amount;
+            r.amount = now;
+            Ok((r, more))
         }
-        Err(error) => {
-            let r = Residual {
-                network,
-                split,
-                capacities,
-                amount,
-            };
-            Err((r, error))
-        }
+        Err(error) => Err((r, error)),
     }
 }
 
