@@ -4,6 +4,7 @@ use Rattle.std.specs.List.{Contains}
 use Rattle.std.proofs.lemmas.List.Elements.{All-contains}
 use Rattle.bl_flow.specs.declared.network.Network.{Network}
 use Rattle.bl_flow.specs.declared.split.Link.{Link}
+use Rattle.bl_flow.specs.declared.split_network.SplitNetwork.{SplitNetwork}
 use Rattle.bl_flow.specs.Networks.{size, InRange}
 use Rattle.bl_flow.specs.Split.{in_part, out_part, end_link, links_of, both_ways, link_at, reverse_link}
 use Rattle.bl_flow.specs.Flows.{IsFlow}
@@ -13,6 +14,7 @@ use Rattle.bl_flow.specs.Residuals.{Loaded, loaded_by, arc_at, ResidualWalk, Are
 use Rattle.bl_flow.proofs.FlowBounds.{at_most_total}
 use Rattle.bl_flow.proofs.ResidualFlows.{lawful, amount_is}
 use Rattle.bl_flow.proofs.Links.{unbounded_behind, end_place}
+use Rattle.bl_flow.proofs.NetworkOfLinks.{network_of, is_rebuilt}
 use Rattle.bl_flow.proofs.ReverseLinks.{forward_at, reverse_at, place_cases}
 use Rattle.bl_flow.proofs.Residuals.{to_start, from_end, KindAt, is_node, is_arc, is_behind, kind_at, arc_ends, walk_out, walk_in, by_link, always_capacity}
 
@@ -95,44 +97,44 @@ ends_risen n range old new before after flow small flow_now small_now levels all
     let gap = out.4 in
     omega arith
 
-pub packed_small : (n : Network) (links : List Link) (rows : List (List ℕ)) (capacities : List ℕ) (amount : ℕ) → IsPacked n links rows capacities amount → amount < 2 ^ 63
-packed_small n links rows capacities amount is = let most = at_most_total n capacities amount is.flow is.in_range is.bounded in let total = is.total in omega arith
+pub packed_small : (n : Network) (split : SplitNetwork) (capacities : List ℕ) (amount : ℕ) → IsPacked n split capacities amount → amount < 2 ^ 63
+packed_small n split capacities amount is = let most = at_most_total n capacities amount is.flow is.split_.in_range is.bounded in let total = is.total in omega arith
 
-pub packed_lawful : (r : Loaded) (n : Network) (links : List Link) (rows : List (List ℕ)) (capacities : List ℕ) (amount : ℕ) → loaded_by n capacities ≡ r
-    → IsPacked n links rows capacities amount → IsLawful r × (amount_of r ≡ amount)
-packed_lawful r n links rows capacities amount view is =
-    let small = packed_small n links rows capacities amount is in
-    subst (λ x. IsLawful x × (amount_of x ≡ amount)) view (lawful n is.in_range capacities amount is.flow small, amount_is n is.in_range capacities amount is.flow small)
+pub packed_lawful : (r : Loaded) (n : Network) (split : SplitNetwork) (capacities : List ℕ) (amount : ℕ) → loaded_by n capacities ≡ r
+    → IsPacked n split capacities amount → IsLawful r × (amount_of r ≡ amount)
+packed_lawful r n split capacities amount view is =
+    let small = packed_small n split capacities amount is in
+    subst (λ x. IsLawful x × (amount_of x ≡ amount)) view (lawful n is.split_.in_range capacities amount is.flow small, amount_is n is.split_.in_range capacities amount is.flow small)
 
 -- what an advance of a residual network comes to
-pub record Advance (r : Loaded) (n : Network) (links : List Link) (rows : List (List ℕ)) (capacities : List ℕ) (before after : ℕ) (levels : List (Option ℕ)) : Type 0 where
-  pub packed : IsPacked n links rows capacities after
+pub record Advance (r : Loaded) (n : Network) (split : SplitNetwork) (capacities : List ℕ) (before after : ℕ) (levels : List (Option ℕ)) : Type 0 where
+  pub packed : IsPacked n split capacities after
   pub lawful_ : IsLawful (loaded_by n capacities)
   pub amount_ : amount_of (loaded_by n capacities) ≡ amount_of r + (after - before)
   pub some : (0 < after - before) ↔ ReachesAnEnd r.network levels
   pub risen : EndsHaveRisen (loaded_by n capacities) levels
 
-module _ (n : Network) (links : List Link) (rows : List (List ℕ)) (old new : List ℕ) (before after : ℕ) (levels : List (Option ℕ))
-    (is : IsPacked n links rows old before) (more : IsAdvanced n old new before after) (public_ : AreLevelsOf (loaded_by n old) levels) where
+module _ (n : Network) (split : SplitNetwork) (old new : List ℕ) (before after : ℕ) (levels : List (Option ℕ))
+    (is : IsPacked n split old before) (more : IsAdvanced n old new before after) (public_ : AreLevelsOf (loaded_by n old) levels) where
   small_before : before < 2 ^ 63
-  small_before = packed_small n links rows old before is
+  small_before = packed_small n split old before is
 
-  packed_after : IsPacked n links rows new after
-  packed_after = record { in_range = is.in_range; bounded = is.bounded; total = is.total; links_ = is.links_; rows_ = is.rows_; parts = is.parts; flow = more.flow }
+  packed_after : IsPacked n split new after
+  packed_after = record { split_ = is.split_; bounded = is.bounded; total = is.total; flow = more.flow }
 
   by_level : (o : Option ℕ) → level_at more.levels_ (out_part (size n)) ≡ o → (before ≤ after) × (0 < after - before → ReachesAnEnd n levels)
-  by_level None e = let same = more.none e in (omega arith, λ lt. absurd (omega arith))
+  by_level None e = let same = more.blocked.none e in (omega arith, λ lt. absurd (omega arith))
   by_level (Some d) e =
-      let up = more.some d e in
-      let out = last_out n is.in_range old before is.flow small_before levels more.levels_ public_ more.least d e in
+      let up = more.blocked.some d e in
+      let out = last_out n is.split_.in_range old before is.flow small_before levels more.levels_ public_ more.least d e in
       (omega arith, λ _. (out.0, out.1, out.2, out.3))
 
-  advance_plain : Advance (loaded_by n old) n links rows new before after levels
+  advance_plain : Advance (loaded_by n old) n split new before after levels
   advance_plain =
       let known = by_level (level_at more.levels_ (out_part (size n))) refl in
       let up = known.0 in
-      let was = packed_lawful (loaded_by n old) n links rows old before refl is in
-      let now = packed_lawful (loaded_by n new) n links rows new after refl packed_after in
+      let was = packed_lawful (loaded_by n old) n split old before refl is in
+      let now = packed_lawful (loaded_by n new) n split new after refl packed_after in
       let was_amount = was.1 in let now_amount = now.1 in
       record {
         packed = packed_after;
@@ -141,14 +143,14 @@ module _ (n : Network) (links : List Link) (rows : List (List ℕ)) (old new : L
         some = (
           known.1,
           λ reaches.
-              let top = last_in n is.in_range old before is.flow small_before levels more.levels_ public_ more.least reaches in
-              let lt = more.some top.0 top.1 in omega arith,
+              let top = last_in n is.split_.in_range old before is.flow small_before levels more.levels_ public_ more.least reaches in
+              let lt = more.blocked.some top.0 top.1 in omega arith,
         );
-        risen = ends_risen n is.in_range old new before after is.flow small_before more.flow (packed_small n links rows new after packed_after) levels more.levels_ public_ more.least more.risen;
+        risen = ends_risen n is.split_.in_range old new before after is.flow small_before more.flow (packed_small n split new after packed_after) levels more.levels_ public_ more.least more.blocked.risen_;
       }
 
-pub advance_is : (r : Loaded) (n : Network) (links : List Link) (rows : List (List ℕ)) (old new : List ℕ) (before after : ℕ) (levels : List (Option ℕ))
-    → loaded_by n old ≡ r → IsPacked n links rows old before → IsAdvanced n old new before after → AreLevelsOf r levels → Advance r n links rows new before after levels
-advance_is r n links rows old new before after levels view is more public_ =
-    subst (λ x. Advance x n links rows new before after levels) view
-    (advance_plain n links rows old new before after levels is more (subst (λ x. AreLevelsOf x levels) (sym view) public_))
+pub advance_is : (r : Loaded) (n : Network) (split : SplitNetwork) (old new : List ℕ) (before after : ℕ) (levels : List (Option ℕ))
+    → loaded_by n old ≡ r → IsPacked n split old before → IsAdvanced (network_of split.nodes split.links old) old new before after → AreLevelsOf r levels → Advance r n split new before after levels
+advance_is r n split old new before after levels view is more public_ =
+    subst (λ x. Advance x n split new before after levels) view
+    (advance_plain n split old new before after levels is (subst (λ m. IsAdvanced m old new before after) (sym (is_rebuilt n split old before is)) more) (subst (λ x. AreLevelsOf x levels) (sym view) public_))

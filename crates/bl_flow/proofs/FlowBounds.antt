@@ -1,19 +1,21 @@
 -- Amounts more flow, and no more than the weights allow.
-use Rattle.std.proofs.Common.{◌≡◌, ℕ, ◌+◌, ◌*◌, ◌^◌, ◌<◌, ◌≤◌, Bool, true, false, List, length, Option, Some, None, is_some, unwrap_or, refl, sym, ap, subst, ◌∙◌, arith, inl, inr, slice_index}
+use Rattle.std.proofs.Common.{◌≡◌, ℕ, ◌+◌, ◌*◌, ◌^◌, ◌<◌, ◌≤◌, Bool, true, false, List, length, Option, Some, None, is_some, unwrap_or, refl, sym, ap, ◌∙◌, arith, inl, inr, slice_index}
 use Rattle.std.specs.Prelude.{IsSome}
 use Rattle.bl_flow.specs.declared.network.Network.{Network}
-use Rattle.bl_flow.specs.declared.split.Link.{Link}
+use Rattle.bl_flow.specs.declared.split_network.SplitNetwork.{SplitNetwork}
 use Rattle.bl_flow.specs.Networks.{size, weight_at, InRange, total_weight}
 use Rattle.bl_flow.specs.Cuts.{IsCut, Meets, cut_weight}
 use Rattle.bl_flow.specs.Split.{in_part, out_part, links_of, both_ways, link_at, full_capacity}
 use Rattle.bl_flow.specs.Flows.{link_count, carried_by, IsFlow, IsPushed, HasCapacities, amount_if}
 use Rattle.bl_flow.specs.Searches.{IsTrail}
+use Rattle.bl_flow.specs.SplitNetworks.{IsSplitNetwork}
 use Rattle.bl_base.proofs.Sums.{sum_same, sum_none, sum_term}
 use Rattle.bl_flow.proofs.Amounts.{carries_more}
 use Rattle.bl_flow.proofs.Duality.{worth_at_most, share}
 use Rattle.bl_flow.proofs.Links.{count_of, unbounded_behind, full_capacity_of}
 use Rattle.std.proofs.lemmas.Option.{slice_get_past}
 use Rattle.bl_flow.proofs.ReverseLinks.{both_count}
+use Rattle.bl_flow.proofs.SplitNetworks.{of_network}
 use Rattle.std.proofs.lemmas.Bool.{cases_lt}
 
 -- nothing flows at first
@@ -92,15 +94,10 @@ pub capacities_of : (n : Network) (capacities : List ℕ) (a : ℕ) → IsFlow n
 capacities_of n capacities a flow = flow.places ∙ sym (both_count (links_of n))
 
 -- the same, where the links and parts are named by their values
-pub flow_after : (n : Network) (links : List Link) (capacities after : List ℕ) (a nodes : ℕ) (trail walked : List ℕ) (capacity : ℕ) → links ≡ both_ways (links_of n) → nodes ≡ size n → walked ≡ trail
-    → IsFlow n capacities a → IsTrail links capacities (2 * nodes) (2 * nodes + 1) trail capacity → IsPushed capacities after walked capacity → IsFlow n after (a + capacity)
-flow_after n links capacities after a nodes trail walked capacity same len e flow on pushed =
-    let root : 2 * nodes ≡ in_part (size n) = omega arith in
-    let sink : 2 * nodes + 1 ≡ out_part (size n) = omega arith in
-    let whole : IsTrail (both_ways (links_of n)) capacities (in_part (size n)) (out_part (size n)) trail capacity =
-    subst (λ p. IsTrail (both_ways (links_of n)) capacities (in_part (size n)) p trail capacity) sink
-    (subst (λ r. IsTrail (both_ways (links_of n)) capacities r (2 * nodes + 1) trail capacity) root (subst (λ l. IsTrail l capacities (2 * nodes) (2 * nodes + 1) trail capacity) same on)) in
-    flow_more n capacities after a capacity trail flow (subst (λ w. IsPushed capacities after w capacity) e pushed) capacity whole
+pub flow_after : (n : Network) (split : SplitNetwork) (capacities after : List ℕ) (a : ℕ) (trail : List ℕ) (capacity : ℕ) → IsSplitNetwork n split
+    → IsFlow n capacities a → IsTrail split.links capacities (2 * split.nodes) (2 * split.nodes + 1) trail capacity → IsPushed capacities after trail capacity → IsFlow n after (a + capacity)
+flow_after n split capacities after a trail capacity is flow on pushed =
+    flow_more n capacities after a capacity trail flow pushed capacity (of_network n split is (λ links nodes. IsTrail links capacities (2 * nodes) (2 * nodes + 1) trail capacity) on)
 
 -- what a node with a weight carries is at most its weight
 pub load_fits : (n : Network) (capacities : List ℕ) (a v w load : ℕ) → IsFlow n capacities a → weight_at n v ≡ Some w → (v < size n → load ≤ carried_by n capacities v) → load ≤ w

@@ -6,15 +6,18 @@ use Rattle.std.proofs.lemmas.List.Elements.{All-push, All-nil, All-from_get_or}
 use Rattle.bl_flow.specs.declared.network.Network.{Network}
 use Rattle.bl_flow.specs.declared.network.NodePath.{NodePath}
 use Rattle.bl_flow.specs.declared.split.Link.{Link}
+use Rattle.bl_flow.specs.declared.split_network.SplitNetwork.{SplitNetwork}
 use Rattle.bl_flow.specs.Networks.{size, InRange, IsPath, load, carried}
 use Rattle.bl_flow.specs.Split.{in_part, out_part, links_of, both_ways, link_at, entered}
 use Rattle.bl_flow.specs.Flows.{amount_if, Carries, link_count, carried_by, IsFlow, IsCarried, IsTaken, LeadsBack}
 use Rattle.bl_flow.specs.FullFlows.{IsPathTaken}
 use Rattle.bl_flow.specs.Searches.{IsTrail}
+use Rattle.bl_flow.specs.SplitNetworks.{IsSplitNetwork}
 use Rattle.bl_flow.specs.Traces.{IsTraced}
 use Rattle.bl_base.proofs.Sums.{sum_same}
 use Rattle.bl_flow.proofs.Amounts.{carries_less}
 use Rattle.bl_flow.proofs.ReverseLinks.{both_count}
+use Rattle.bl_flow.proofs.SplitNetworks.{of_network}
 use Rattle.bl_flow.proofs.Trails.{WalkOf, walk_of}
 
 -- only the amounts at the links matter
@@ -140,10 +143,11 @@ path_of_more n old mid new left path less taken = record {
 }
 
 -- a traced trail is a trail
-pub traced_trail : (n : Network) (links : List Link) (carries trail : List ℕ) (capacity : ℕ) → links ≡ both_ways (links_of n) → IsTraced links (link_count n) carries trail (in_part (size n)) (out_part (size n))
+pub traced_trail : (n : Network) (split : SplitNetwork) (carries trail : List ℕ) (capacity : ℕ) → IsSplitNetwork n split
+    → IsTraced split.links (link_count n) carries trail (2 * split.nodes) (2 * split.nodes + 1)
     → ((place : ℕ) → place < length trail → capacity ≤ slice_index carries (slice_index trail place)) → 0 < capacity → IsTrail (both_ways (links_of n)) carries (in_part (size n)) (out_part (size n)) trail capacity
-traced_trail n links carries trail capacity both traced enough some = record {
-  back = subst (λ l. LeadsBack l trail (in_part (size n)) (out_part (size n))) both traced.back;
+traced_trail n split carries trail capacity is traced enough some = record {
+  back = of_network n split is (λ links nodes. LeadsBack links trail (2 * nodes) (2 * nodes + 1)) traced.back;
   within = λ place lt. let below = traced.within place lt in let count = both_count (links_of n) in omega arith;
   enough = enough;
   apart = traced.apart;

@@ -1,21 +1,23 @@
 -- The last levels after the last phase, and the rows of links to parts.
 use Rattle.std.proofs.Common.{◌≡◌, ℕ, ◌+◌, ◌-◌, ◌*◌, ◌/◌, ◌<◌, ◌≤◌, List, [], length, Option, None, map, take, ◌++◌, refl, sym, ap, subst, ◌∙◌, arith, inl, inr, slice_index}
-use Rattle.std.specs.List.{All, Contains}
-use Rattle.std.proofs.lemmas.List.Elements.{All-get_or}
+use Rattle.std.specs.List.{Contains}
 use Rattle.std.proofs.lemmas.Bool.{cases_lt, lt-ltb, le-ltb}
 use Rattle.std.proofs.lemmas.List.{get_or-map, length-map, get_or_past}
 use Rattle.std.proofs.Math.Seq.{take-append_seam}
 use Rattle.bl_flow.specs.declared.split.Link.{Link}
 use Rattle.bl_flow.specs.declared.network.Network.{Network}
-use Rattle.bl_flow.specs.Networks.{size}
+use Rattle.bl_flow.specs.declared.split_network.SplitNetwork.{SplitNetwork}
 use Rattle.bl_flow.specs.Flows.{IsFlow, AreReverse}
 use Rattle.bl_flow.specs.FullFlows.{IsFull}
-use Rattle.bl_flow.specs.Split.{link_at, both_ways, links_of, in_part, out_part}
+use Rattle.bl_flow.specs.Split.{link_at, both_ways, links_of}
+use Rattle.bl_flow.specs.SplitNetworks.{IsSplitNetwork, IsLinked}
 use Rattle.bl_flow.specs.Searches.{AreRows, part_row}
 use Rattle.bl_flow.specs.AdjacencyLists.{reverse_place, reversed}
 use Rattle.bl_flow.specs.Levels.{level_at, AreLevels, AreLevelsToEnd, AreRowsIn}
 use Rattle.bl_flow.proofs.ReverseLinks.{both_count}
 use Rattle.bl_flow.proofs.Links.{contains_map}
+use Rattle.bl_flow.proofs.LinksWithin.{from_within, to_within}
+use Rattle.bl_flow.proofs.SplitNetworks.{of_network}
 use Rattle.bl_flow.proofs.Phases.{reverse_ends}
 use Rattle.bl_flow.proofs.LevelSearch.{whole_levels}
 
@@ -91,20 +93,25 @@ rows_reversed half links rows both hold = record {
         (reverse_ends half k (reverse_place (length half) k) pair) in
         (inside, ends.0, ends.1)
 
-pub all_to : (parts : ℕ) (links : List Link) → All (λ link. link.to < parts) links → (k : ℕ) → k < length links → (link_at links k).to < parts
-all_to parts links all k lt = All-get_or (λ link. link.to < parts) links k (record { from = 0; to = 0 }) lt all
-
 -- the last levels, by which no walk comes to an end
-pub full_at : (n : Network) (links : List Link) (capacities : List ℕ) (levels : List (Option ℕ)) (amount nodes : ℕ) → links ≡ both_ways (links_of n) → nodes ≡ size n
-    → IsFlow n capacities amount → AreLevelsToEnd links capacities (2 * nodes) (2 * nodes + 1) levels → level_at levels (2 * nodes + 1) ≡ None → IsFull n capacities levels amount
-full_at n links capacities levels amount nodes both len flow are none = record {
+pub full_at : (n : Network) (split : SplitNetwork) (capacities : List ℕ) (levels : List (Option ℕ)) (amount : ℕ) → IsSplitNetwork n split → IsFlow n capacities amount
+    → AreLevelsToEnd split.links capacities (2 * split.nodes) (2 * split.nodes + 1) levels → level_at levels (2 * split.nodes + 1) ≡ None → IsFull n capacities levels amount
+full_at n split capacities levels amount is flow are none = record {
   flow = flow;
-  levels_ = subst (λ l. AreLevels l capacities (in_part (size n)) (out_part (size n)) levels) both (subst (λ p. AreLevels links capacities (2 * p) (2 * p + 1) levels) len (whole_levels links capacities (2 * nodes) (2 * nodes + 1) levels are none));
-  last = subst (λ p. level_at levels (2 * p + 1) ≡ None) len none;
+  levels_ = of_network n split is (λ links nodes. AreLevels links capacities (2 * nodes) (2 * nodes + 1) levels) (whole_levels split.links capacities (2 * split.nodes) (2 * split.nodes + 1) levels are none);
+  last = subst (λ nodes. level_at levels (2 * nodes + 1) ≡ None) is.nodes_ none;
 }
 
 pub half_count : (n : Network) (links : List Link) → links ≡ both_ways (links_of n) → length links / 2 ≡ length (links_of n)
 half_count n links both = let count : length links ≡ length (links_of n) + length (links_of n) = ap length both ∙ both_count (links_of n) in omega arith
 
-pub rows_both : (n : Network) (links : List Link) (rows : List (List ℕ)) → links ≡ both_ways (links_of n) → AreRows links rows → AreRowsIn links (reversed (length links / 2) rows)
-rows_both n links rows both hold = subst (λ h. AreRowsIn links (reversed h rows)) (sym (half_count n links both)) (rows_reversed (links_of n) links rows both hold)
+-- the links of a split network lead from part to part
+pub linked : (n : Network) (split : SplitNetwork) → IsSplitNetwork n split → IsLinked split
+linked n split is = record {
+  small = is.small;
+  parts = let nodes = is.nodes_ in let parts = is.parts in omega arith;
+  rows_out = is.rows_;
+  rows_in_ = subst (λ half. AreRowsIn split.links (reversed half split.rows)) (sym (half_count n split.links is.links_)) (rows_reversed (links_of n) split.links split.rows is.links_ is.rows_);
+  froms = from_within n is.in_range (length split.rows) is.parts split.links is.links_;
+  tos = to_within n is.in_range (length split.rows) is.parts split.links is.links_;
+}

@@ -1,6 +1,6 @@
 -- A network is known by its links and what they can take; so a proof can name it where no code holds it.
 use Rattle.std.proofs.Common.{◌≡◌, ℕ, ◌+◌, ◌*◌, ◌/◌, ◌^◌, ◌<◌, List, [], ◌∷◌, ◌++◌, length, Option, Some, None, false, map, take, drop, slice_index, unwrap_or, if◌then◌else◌, nat_lt, nat_eq, refl, sym, ap, subst, ◌∙◌, arith}
-use Rattle.std.specs.Prelude.{Result, Ok, Err, IfOk, IsSome, OnOk}
+use Rattle.std.specs.Prelude.{Result, Ok, Err, IfOk, IsSome}
 use Rattle.std.specs.List.{filter_map, cons_option, range_with_len}
 use Rattle.std.proofs.lemmas.Bool.{lt-ltb, le-ltb, eq-eqb, ne_eqb}
 use Rattle.std.proofs.lemmas.List.{ext_get_or, append-nil}
@@ -14,16 +14,19 @@ use Rattle.bl_flow.specs.declared.layout.Layout.{Layout}
 use Rattle.bl_flow.specs.declared.layout.Split.{Split}
 use Rattle.bl_flow.specs.declared.network.Network.{Network}
 use Rattle.bl_flow.specs.declared.split.Link.{Link}
+use Rattle.bl_flow.specs.declared.split_network.SplitNetwork.{SplitNetwork}
 use Rattle.bl_flow.specs.Networks.{InRange, size, weight_at, total_weight}
 use Rattle.bl_flow.specs.Split.{in_part, out_part, arc_link, start_link, end_link, links_of, link_at, both_ways, reverse_link}
 use Rattle.bl_flow.specs.Flows.{link_count, IsFlow}
-use Rattle.bl_flow.specs.Levels.{level_at, AreLevels, HasRisen}
+use Rattle.bl_flow.specs.Levels.{AreLevels, IsBlocked}
 use Rattle.bl_flow.specs.Cuts.{Meets}
 use Rattle.bl_flow.specs.Searches.{AreRows}
+use Rattle.bl_flow.specs.SplitNetworks.{IsSplitNetwork}
 use Rattle.bl_flow.specs.MaxFlow.{IsSplit, IsSorted, IsLaidOut}
 use Rattle.bl_flow.specs.PackedNetworks.{IsPacked, IsAdvanced}
 use Rattle.bl_flow.proofs.Links.{count_of, nodes_part, outer_part, nodes_length}
 use Rattle.bl_flow.proofs.LinksWithin.{from_within}
+use Rattle.bl_flow.proofs.SplitNetworks.{of_network, of_split}
 use Rattle.bl_flow.proofs.LastLevels.{half_count}
 
 -- the arc, the start or the end that a link behind those through the nodes is of
@@ -157,12 +160,11 @@ module _ (n : Network) where
       weight k = weight_of (2 ^ 63) (slice_index capacities k + slice_index capacities (k + link_count n))
 
 -- the network that was laid out
-pub is_rebuilt : (n : Network) (nodes : ℕ) (links : List Link) (rows : List (List ℕ)) (capacities : List ℕ) (amount : ℕ) → nodes ≡ size n → IsPacked n links rows capacities amount
-    → n ≡ network_of nodes links capacities
-is_rebuilt n nodes links rows capacities amount len packed =
-    let half : length links / 2 ≡ link_count n = half_count n links packed.links_ in
-    let whole : network_of (size n) (both_ways (links_of n)) capacities ≡ n = rebuilt (ap (λ l. length l / 2) (sym packed.links_) ∙ half) in
-    sym (ap (λ m. network_of m links capacities) len ∙ ap (λ l. network_of (size n) l capacities) packed.links_ ∙ whole)
+pub is_rebuilt : (n : Network) (split : SplitNetwork) (capacities : List ℕ) (amount : ℕ) → IsPacked n split capacities amount → n ≡ network_of split.nodes split.links capacities
+is_rebuilt n split capacities amount packed =
+    let half : length split.links / 2 ≡ link_count n = half_count n split.links packed.split_.links_ in
+    let whole : network_of (size n) (both_ways (links_of n)) capacities ≡ n = rebuilt (ap (λ l. length l / 2) (sym packed.split_.links_) ∙ half) in
+    of_split n split packed.split_ (λ links nodes. n ≡ network_of nodes links capacities) (sym whole)
   where
     named : (weights : List (Option ℕ)) (arcs : List Arc) (starts ends : List ℕ) → weights ≡ n.weights → arcs ≡ n.arcs → starts ≡ n.starts → ends ≡ n.ends
         → record { weights = weights; arcs = arcs; starts = starts; ends = ends } ≡ n
@@ -185,32 +187,26 @@ is_rebuilt n nodes links rows capacities amount len packed =
     rebuilt : length (both_ways (links_of n)) / 2 ≡ link_count n → network_of (size n) (both_ways (links_of n)) capacities ≡ n
     rebuilt half = ap at_half half ∙ named _ _ _ _ (weights_back n capacities amount packed.flow packed.total) (arcs_back n) (starts_back n) (ends_back n)
 
--- what was laid out, with another flow
-pub packed_again : (n : Network) (links : List Link) (rows : List (List ℕ)) (old new : List ℕ) (before after : ℕ) → IsPacked n links rows old before → IsFlow n new after → IsPacked n links rows new after
-packed_again n links rows old new before after packed flow = record {
-  in_range = packed.in_range;
+-- the same split network, with another flow
+pub packed_again : (n : Network) (split : SplitNetwork) (old new : List ℕ) (before after : ℕ) → IsPacked n split old before → IsFlow n new after → IsPacked n split new after
+packed_again n split old new before after packed flow = record {
+  split_ = packed.split_;
   bounded = packed.bounded;
   total = packed.total;
-  links_ = packed.links_;
-  rows_ = packed.rows_;
-  parts = packed.parts;
   flow = flow;
 }
 
--- what a caller learns of the network that was laid out where it is told of the rebuilt one
-pub advanced_again : {E : Type 0} (n m : Network) (links : List Link) (old new : List ℕ) (amount : ℕ) (levels seen : List (Option ℕ)) (result : Result ℕ E) → n ≡ m → links ≡ both_ways (links_of n) → seen ≡ levels
-    → AreLevels links old (in_part (size n)) (out_part (size n)) levels → IfOk result (λ r. IsFlow m new r)
-    → IfOk result (λ r. (d : ℕ) → level_at seen (out_part (size m)) ≡ Some d → amount < r) → IfOk result (λ r. level_at seen (out_part (size m)) ≡ None → r ≡ amount)
-    → OnOk result (HasRisen links new (in_part (size m)) seen (out_part (size m))) → IfOk result (IsAdvanced n old new amount)
-advanced_again n m links old new amount levels seen (Err e) is both same are flow some none risen = tt
-advanced_again n m links old new amount levels seen (Ok now) is both same are flow some none risen = record {
-  flow = subst (λ x. IsFlow x new now) (sym is) flow;
+-- what a blocking flow comes to, of the network
+pub advanced_by : {E : Type 0} (n : Network) (split : SplitNetwork) (old new : List ℕ) (amount : ℕ) (levels seen : List (Option ℕ)) (result : Result ℕ E) → IsSplitNetwork n split → seen ≡ levels
+    → AreLevels split.links old (2 * split.nodes) (2 * split.nodes + 1) levels → IfOk result (IsFlow n new)
+    → IfOk result (IsBlocked split.links seen (2 * split.nodes) (2 * split.nodes + 1) new amount) → IfOk result (IsAdvanced n old new amount)
+advanced_by n split old new amount levels seen (Err e) is same are flow blocked = tt
+advanced_by n split old new amount levels seen (Ok now) is same are flow blocked = record {
+  flow = flow;
   levels_ = levels;
-  least = subst (λ l. AreLevels l old (in_part (size n)) (out_part (size n)) levels) both are;
-  some = subst (λ x. (d : ℕ) → level_at levels (out_part (size x)) ≡ Some d → amount < now) (sym is) (subst (λ l. (d : ℕ) → level_at l (out_part (size m)) ≡ Some d → amount < now) same some);
-  none = subst (λ x. level_at levels (out_part (size x)) ≡ None → now ≡ amount) (sym is) (subst (λ l. level_at l (out_part (size m)) ≡ None → now ≡ amount) same none);
-  risen = subst (λ l. HasRisen l new (in_part (size n)) levels (out_part (size n))) both
-      (subst (λ x. HasRisen links new (in_part (size x)) levels (out_part (size x))) (sym is) (subst (λ l. HasRisen links new (in_part (size m)) l (out_part (size m))) same risen));
+  least = of_network n split is (λ links nodes. AreLevels links old (2 * nodes) (2 * nodes + 1) levels) are;
+  blocked = of_network n split is (λ links nodes. IsBlocked links levels (2 * nodes) (2 * nodes + 1) new amount now)
+      (subst (λ l. IsBlocked split.links l (2 * split.nodes) (2 * split.nodes + 1) new amount now) same blocked);
 }
 
 -- where the links lead that are to be sorted, and what comes of it
@@ -223,26 +219,25 @@ split_within n split range is =
 pub sorted_is_laid : (n : Network) (split : Split) (layout : Layout) → InRange n → Meets n (λ v. IsSome (weight_at n v)) → total_weight n < 2 ^ 63 → IsSplit n split
     → IsSorted split layout → IsLaidOut n layout
 sorted_is_laid n split layout range bounded total is sorted = record {
-  nodes_ = sorted.nodes_ ∙ is.nodes_;
-  small = let same = sorted.nodes_ in let small = is.small in omega arith;
-  packed = record {
+  split_ = record {
     in_range = range;
-    bounded = bounded;
-    total = total;
+    nodes_ = sorted.nodes_ ∙ is.nodes_;
+    small = let same = sorted.nodes_ in let small = is.small in omega arith;
     links_ = sorted.links_ ∙ is.links_;
-    rows_ = subst (λ links. AreRows links layout.rows) (sym sorted.links_) sorted.rows_;
+    rows_ = subst (λ links. AreRows links layout.split.rows) (sym sorted.links_) sorted.rows_;
     parts = sorted.parts ∙ ap (λ nodes. 2 * nodes + 2) is.nodes_;
-    flow = subst (λ capacities. IsFlow n capacities 0) (sym sorted.capacities_) is.flow;
   };
+  bounded = bounded;
+  total = total;
+  flow = subst (λ capacities. IsFlow n capacities 0) (sym sorted.capacities_) is.flow;
 }
 
-laid_out_is : (n : Network) (layout : Layout) → IsLaidOut n layout → n ≡ network_of layout.nodes layout.links layout.capacities
-laid_out_is n layout laid = is_rebuilt n layout.nodes layout.links layout.rows layout.capacities 0 laid.nodes_ laid.packed
+abbrev pub network_laid : Layout → Network
+network_laid layout = network_of layout.split.nodes layout.split.links layout.capacities
 
-pub laid_out_again : (n : Network) (layout : Layout) → IsLaidOut n layout → IsLaidOut (network_of layout.nodes layout.links layout.capacities) layout
-laid_out_again n layout laid = subst (λ m. IsLaidOut m layout) (laid_out_is n layout laid) laid
+pub laid_out_again : (n : Network) (layout : Layout) → IsLaidOut n layout → IsLaidOut (network_laid layout) layout
+laid_out_again n layout laid = subst (λ m. IsLaidOut m layout) (is_rebuilt n layout.split layout.capacities 0 laid) laid
 
 -- what is told of the network that was laid out where it is told of the rebuilt one
-pub told_again : {A E : Type 0} (P : Network → A → Type 0) (n : Network) (layout : Layout) (result : Result A E) → IsLaidOut n layout
-    → IfOk result (P (network_of layout.nodes layout.links layout.capacities)) → IfOk result (P n)
-told_again P n layout result laid told = subst (λ m. IfOk result (P m)) (sym (laid_out_is n layout laid)) told
+pub told_again : {A E : Type 0} (P : Network → A → Type 0) (n : Network) (layout : Layout) (result : Result A E) → IsLaidOut n layout → IfOk result (P (network_laid layout)) → IfOk result (P n)
+told_again P n layout result laid told = subst (λ m. IfOk result (P m)) (sym (is_rebuilt n layout.split layout.capacities 0 laid)) told

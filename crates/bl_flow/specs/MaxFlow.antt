@@ -27,14 +27,12 @@ pub record IsSplit (n : Network) (split : Split) : Type 0 where
 
 -- the same, sorted by rows
 pub record IsSorted (split : Split) (layout : Layout) : Type 0 where
-  pub nodes_ : layout.nodes ≡ split.nodes
-  pub links_ : layout.links ≡ split.links
+  pub nodes_ : layout.split.nodes ≡ split.nodes
+  pub links_ : layout.split.links ≡ split.links
   pub capacities_ : layout.capacities ≡ split.capacities
-  pub rows_ : AreRows split.links layout.rows
-  pub parts : length layout.rows ≡ 2 * split.nodes + 2
+  pub rows_ : AreRows split.links layout.split.rows
+  pub parts : length layout.split.rows ≡ 2 * split.nodes + 2
 
 -- a network's links both ways, row by row, with what each can take before anything flows
-pub record IsLaidOut (n : Network) (layout : Layout) : Type 0 where
-  pub nodes_ : layout.nodes ≡ size n
-  pub small : layout.nodes < 2 ^ 60
-  pub packed : IsPacked n layout.links layout.rows layout.capacities 0
+abbrev pub IsLaidOut : Network → Layout → Type 0
+IsLaidOut n layout = IsPacked n layout.split layout.capacities 0

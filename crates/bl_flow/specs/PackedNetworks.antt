@@ -1,22 +1,19 @@
 -- How a residual network is packed.
-use Rattle.std.specs.Prelude.{◌≡◌, ℕ, ◌+◌, ◌-◌, ◌*◌, ◌^◌, ◌<◌, List, Option, Some, None, IsSome, length}
+use Rattle.std.specs.Prelude.{ℕ, ◌-◌, ◌^◌, ◌<◌, List, Option, Some, None, IsSome}
 use Rattle.bl_flow.specs.declared.network.Network.{Network}
-use Rattle.bl_flow.specs.declared.split.Link.{Link}
-use Rattle.bl_flow.specs.Networks.{size, weight_at, InRange, total_weight}
+use Rattle.bl_flow.specs.declared.split_network.SplitNetwork.{SplitNetwork}
+use Rattle.bl_flow.specs.Networks.{size, weight_at, total_weight}
 use Rattle.bl_flow.specs.Cuts.{Meets}
 use Rattle.bl_flow.specs.Split.{links_of, both_ways, in_part, out_part}
 use Rattle.bl_flow.specs.Flows.{IsFlow}
-use Rattle.bl_flow.specs.Searches.{AreRows}
-use Rattle.bl_flow.specs.Levels.{level_at, AreLevels, HasRisen}
+use Rattle.bl_flow.specs.SplitNetworks.{IsSplitNetwork}
+use Rattle.bl_flow.specs.Levels.{AreLevels, IsBlocked}
 
--- the links both ways, row by row, with what each can still take in a flow of so much
-pub record IsPacked (n : Network) (links : List Link) (rows : List (List ℕ)) (capacities : List ℕ) (amount : ℕ) : Type 0 where
-  pub in_range : InRange n
+-- the split network, with what each link can still take in a flow of so much
+pub record IsPacked (n : Network) (split : SplitNetwork) (capacities : List ℕ) (amount : ℕ) : Type 0 where
+  pub split_ : IsSplitNetwork n split
   pub bounded : Meets n (λ v. IsSome (weight_at n v))
   pub total : total_weight n < 2 ^ 63
-  pub links_ : links ≡ both_ways (links_of n)
-  pub rows_ : AreRows links rows
-  pub parts : length rows ≡ 2 * size n + 2
   pub flow : IsFlow n capacities amount
 
 -- a level counted from the starts' in places, where that of the part before them is 0
@@ -29,6 +26,4 @@ pub record IsAdvanced (n : Network) (old new : List ℕ) (before after : ℕ) : 
   pub flow : IsFlow n new after
   pub levels_ : List (Option ℕ)
   pub least : AreLevels (both_ways (links_of n)) old (in_part (size n)) (out_part (size n)) levels_
-  pub some : (d : ℕ) → level_at levels_ (out_part (size n)) ≡ Some d → before < after
-  pub none : level_at levels_ (out_part (size n)) ≡ None → after ≡ before
-  pub risen : HasRisen (both_ways (links_of n)) new (in_part (size n)) levels_ (out_part (size n))
+  pub blocked : IsBlocked (both_ways (links_of n)) levels_ (in_part (size n)) (out_part (size n)) new before after

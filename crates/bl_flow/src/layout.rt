@@ -7,8 +7,9 @@ ghost use Rattle.bl_flow.specs.MaxFlow.{IsSplit, IsSorted, IsLaidOut};
 
 use crate::capacities::Capacities;
 use crate::network::Network;
-use crate::rows::{Rows, rows_of};
+use crate::rows::rows_of;
 use crate::split::{Links, links_both_ways};
+use crate::split_network::SplitNetwork;
 use bl_base::NoMemory;
 use std::alloc::Global;
 
@@ -25,12 +26,8 @@ pub struct Split {
 /// All that a search needs of a network.
 #[derive(Debug, Drop)]
 pub struct Layout {
-    /// The number of its nodes.
-    pub nodes: usize,
-    /// The links of its split network.
-    pub links: Links,
-    /// The links from each part.
-    pub rows: Rows,
+    /// Its split network.
+    pub split: SplitNetwork,
     /// What each link can take.
     pub capacities: Capacities,
 }
@@ -88,10 +85,6 @@ pub fn with_rows(alloc: Global, split: Split) -> Result<Layout, NoMemory>
         capacities,
     } = split;
     let rows = rows_of(alloc, &links, 2 * nodes + 2)?;
-    Ok(Layout {
-        nodes,
-        links,
-        rows,
-        capacities,
-    })
+    let split = SplitNetwork { nodes, links, rows };
+    Ok(Layout { split, capacities })
 }

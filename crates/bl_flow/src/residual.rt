@@ -2,6 +2,7 @@
 ghost use Rattle.std.specs.Prelude.{◌≡◌, ◌↔◌, ◌<◌, ◌≤◌, ◌+◌, ◌*◌, ◌^◌, ℕ, Any, IsSome, IsTrue, length, replicate, IfOk, IfErr, OnErr};
 ghost use Rattle.bl_flow.specs.Networks.{InRange, weight_at, total_weight, size};
 ghost use Rattle.bl_flow.specs.Cuts.{Meets};
+ghost use Rattle.bl_flow.specs.declared.network.Network.{Network};
 ghost use Rattle.bl_flow.specs.Levels.{level_at};
 ghost use Rattle.bl_flow.specs.PackedNetworks.{lowered, IsPacked, IsAdvanced};
 ghost use Rattle.bl_flow.specs.Residuals.{IsLawful, amount_of, AreLevelsOf, ReachesAnEnd, EndsHaveRisen};
@@ -11,9 +12,8 @@ use crate::layout::lay_out;
 use crate::level_graph::block_graph;
 use crate::network::Network;
 use crate::optional::OptionalNumber;
-use crate::rows::Rows;
 use crate::search::part_levels;
-use crate::split::Links;
+use crate::split_network::SplitNetwork;
 use bl_base::{List, NoMemory};
 use std::alloc::Global;
 use std::marker::Model;
@@ -23,8 +23,7 @@ use std::marker::Model;
 #[derive(Debug, Drop)]
 pub struct Residual {
     network: Network,
-    links: Links,
-    rows: Rows,
+    split: SplitNetwork,
     /// What each link can still take.
     capacities: Capacities,
     /// How much flows.
@@ -39,7 +38,7 @@ impl Model for Residual {
 
     ghost view = { λ r. loaded_by r.network r.capacities };
 
-    ghost invariant = { λ r. IsPacked r.network r.links r.rows r.capacities r.amount };
+    ghost invariant = { λ r. IsPacked r.network r.split r.capacities r.amount };
 }
 
 impl Residual {
@@ -67,8 +66,7 @@ pub fn pack(alloc: Global, n: &Network) -> Result<Residual, NoMemory>
     let network = copy_of(alloc, n)?;
     Ok(Residual {
         network,
-        links: layout.links,
-        rows: layout.rows,
+        split: layout.split,
         capacities: layout.capacities,
         amount: 0,
     })
@@ -105,16 +103,8 @@ fn copied<T: Copy + Drop>(alloc: Global, from: &[T]) -> Result<List<T>, NoMemory
 pub fn levels(alloc: Global, r: &Residual) -> Result<List<Option<u64>>, NoMemory>
     ensures { IfOk result (λ levels. AreLevelsOf r.now levels) }
 {
-    let source = 2 * r.network.weights.as_slice().len();
-    let found = part_levels(
-        alloc,
-        &r.links,
-        &r.rows,
-        &r.capacities,
-        source,
-        source + 1,
-        false,
-    )?;
+    let source = 2 * r.split.nodes;
+    let found = part_levels(alloc, &r.split, &r.capacities, source, source + 1, false)?;
     let list = place_levels(alloc, &found, source)?;
     Ok(list)
 }
@@ -151,7 +141,7 @@ fn lower(level: Option<u32>) -> Option<u64>
 /// the levels are those of the residual network. Want of memory is the only error, and gives the network back as it was.
 pub fn advance(
     alloc: Global,
-    r: Residual,
+    mut r: Residual,
     levels: &[Option<u64>],
 ) -> Result<(Residual, u64), (Residual, NoMemory)>
     requires { AreLevelsOf r levels.now }
@@ -165,34 +155,13 @@ pub fn advance(
     if !reaches_an_end(&r.network, levels) {
         return Ok((r, 0));
     }
-    let Residual {
-        network,
-        links,
-        rows,
-        mut capacities,
-        amount,
-    } = r;
-    match flow_on(alloc, &network, &links, &rows, &mut capacities, amount) {
+    match flow_on(alloc, &r.split, &mut r.capacities, r.amount) {
         Ok(now) => {
-            let r = Residual {
-                network,
-                links,
-                rows,
-                capacities,
-                amount: now,
-            };
-            Ok((r, now - amount))
+            let more = now - r.amount;
+            r.amount = now;
+            Ok((r, more))
         }
-        Err(error) => {
-            let r = Residual {
-                network,
-                links,
-                rows,
-                capacities,
-                amount,
-            };
-            Err((r, error))
-        }
+        Err(error) => Err((r, error)),
     }
 }
 
@@ -217,18 +186,16 @@ fn has_level(levels: &[Option<u64>], v: u32) -> bool
 /// gives how much flows then.
 fn flow_on(
     alloc: Global,
-    n: &Network,
-    links: &Links,
-    rows: &Rows,
+    split: &SplitNetwork,
     capacities: &mut Capacities,
     amount: u64,
 ) -> Result<u64, NoMemory>
-    requires { IsPacked n.now links.now rows.now capacities.old amount }
-    ensures advanced { IfOk result (IsAdvanced n.now capacities.old capacities.new amount) }
+    ghost n: { Network }
+    requires { IsPacked n split.now capacities.old amount }
+    ensures advanced { IfOk result (IsAdvanced n capacities.old capacities.new amount) }
     ensures unchanged { OnErr result (capacities.new ≡ capacities.old) }
 {
-    let nodes = n.weights.as_slice().len();
-    let source = 2 * nodes;
-    let levels = part_levels(alloc, links, rows, capacities, source, source + 1, false)?;
-    block_graph(alloc, nodes, links, rows, capacities, &levels, amount)
+    let source = 2 * split.nodes;
+    let levels = part_levels(alloc, split, capacities, source, source + 1, false)?;
+    block_graph(alloc, split, capacities, &levels, amount)
 }

@@ -5,14 +5,10 @@ use Rattle.bl_flow.proofs.FlowBounds.{load_fits}
 use Rattle.bl_flow.proofs.Links.{count_of}
 use Rattle.bl_flow.proofs.flow.flow_through.Goals as goal
 
-pub cut_in-requires : goal.cut_in-requires
-cut_in-requires g c = (c.requires.nodes_, (c.requires.small, c.requires.packed))
-
 pub paths_of-requires : goal.paths_of-requires
 paths_of-requires g c =
-    let packed = c.requires.packed in
     let is = carries_first g.n c.cut_in.new.capacities c.into_carried-carried.result.items c.in_ok-cut.cut.weight c.in_ok-cut.ensures.flow c.into_carried-carried.ensures.places c.into_carried-carried.ensures.amounts in
-    (c.requires.nodes_, (packed.in_range, (packed.links_, (packed.rows_, (packed.parts, subst (λ carries. IsCarried g.n carries c.in_ok-cut.cut.weight) (sym c.deref_mut.ensures.value) is)))))
+    (c.requires.split_, subst (λ carries. IsCarried g.n carries c.in_ok-cut.cut.weight) (sym c.deref_mut.ensures.value) is)
 
 pub returns : goal.returns
 returns g c =

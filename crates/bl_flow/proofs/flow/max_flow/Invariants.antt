@@ -1,5 +1,5 @@
-use Rattle.bl_flow.proofs.NetworkOfLinks.{network_of}
+use Rattle.bl_flow.proofs.NetworkOfLinks.{network_laid}
 use Rattle.bl_flow.proofs.flow.max_flow.Given as goal
 
 abbrev pub ghost-flow_through : goal.ghost-flow_through
-ghost-flow_through a = network_of a.layout.nodes a.layout.links a.layout.capacities
+ghost-flow_through a = network_laid a.layout

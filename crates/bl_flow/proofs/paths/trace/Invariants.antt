@@ -1,17 +1,17 @@
 use Rattle.std.proofs.Common.{ℕ, ◌<◌, ◌≤◌, ◌+◌, length, slice_index}
 use Rattle.bl_base.specs.Sums.{sum_below}
-use Rattle.bl_flow.specs.AdjacencyLists.{reversed}
 use Rattle.bl_flow.specs.Flows.{IsCarried, link_count}
-use Rattle.bl_flow.specs.Traces.{ArePassedOver, OnTrace}
+use Rattle.bl_flow.specs.SplitNetworks.{IsTracing}
+use Rattle.bl_flow.specs.Traces.{OnTrace}
 use Rattle.bl_flow.proofs.paths.trace.Given as goal
 
 abbrev pub invariant-loop-at : goal.invariant-loop-at
 invariant-loop-at g l = record {
-  inside : l.at < length l.rows;
+  inside : l.at < length l.split.rows;
   carried_ : IsCarried g.n l.carries l.left;
   less : (k : ℕ) → slice_index l.carries k ≤ slice_index l.fn.carries k;
-  passed_ : ArePassedOver l.carries (reversed (link_count g.n) l.rows) l.passed;
-  trace : OnTrace l.links (link_count g.n) l.carries l.places l.trail.items (l.source + 1) l.at;
+  tracing : IsTracing l.split l.carries l.tracer.passed.items l.tracer.places.items;
+  trace : OnTrace l.split.links (link_count g.n) l.carries l.tracer.places.items l.tracer.trail.items (l.source + 1) l.at;
 }
 
 abbrev pub decreases-loop-at : goal.decreases-loop-at
