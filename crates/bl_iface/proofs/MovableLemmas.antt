@@ -9,7 +9,7 @@ use Rattle.bl_cmd.specs.Programs.{IsProgram}
 use Rattle.bl_cmd.specs.Rules.{IsWellFormed, Rule4, Rule5, Rule6, operands_of}
 use Rattle.bl_cmd.specs.Sites.{Among, Names}
 use Rattle.bl_cmd.specs.declared.command.Command.{Command}
-use Rattle.bl_cmd.specs.declared.command.Command.TheVariants.{Set, Load, Store, Test, Jump, Arg, Call, Out}
+use Rattle.bl_cmd.specs.declared.command.Command.TheVariants.{Set, Load, Store, Test, Jump, Arg, Call, Out, Ret, Trap}
 use Rattle.bl_cmd.specs.declared.command.Operand.{Operand}
 use Rattle.bl_cmd.specs.declared.command.Operand.TheVariants.{Var, Const}
 use Rattle.bl_cmd.specs.declared.definitions.ProgramParts.{ProgramParts as Program}
@@ -72,7 +72,8 @@ module _ (part : Program) (shift : Shift) (facts : IsProgram part) (well : IsWel
   movable f p (Arg mark function index value) four five six = (operand f (Arg mark function index value) value four (λ x h. inl h), function_near function six.1)
   movable f p (Call function) four five six = function_near function six
   movable f p (Out mark index value) four five six = operand f (Out mark index value) value four (λ x h. inl h)
-  movable f p _ four five six = tt
+  movable f p Ret four five six = tt
+  movable f p (Trap kind) four five six = tt
 
   pub all_movable : All (IsMovable shift) (drop 7 part.commands)
   all_movable = all_from (IsMovable shift) (drop 7 part.commands) (λ k c stands.

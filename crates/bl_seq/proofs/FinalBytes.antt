@@ -18,7 +18,7 @@ use Rattle.bl_cmd.specs.Programs.{IsProgram}
 use Rattle.bl_cmd.specs.Rules.{IsMemory, IsWellFormed}
 use Rattle.bl_cmd.specs.Steps.{Plain, Registers, depth, effective, perform, plain_step, ret, states, states_from, to, value_of}
 use Rattle.bl_cmd.specs.declared.command.Command.{Command}
-use Rattle.bl_cmd.specs.declared.command.Command.TheVariants.{Store, Test, Call, Ret, Trap}
+use Rattle.bl_cmd.specs.declared.command.Command.TheVariants.{Set, Load, Store, Test, Call, Ret, Trap}
 use Rattle.bl_cmd.specs.declared.definitions.MemoryDef.{MemoryDef}
 use Rattle.bl_cmd.specs.declared.definitions.ProgramParts.{ProgramParts as Program}
 use Rattle.bl_seq.specs.FinalMemories.{EndsWhole, IsWhole, memories_at, pages_at}
@@ -69,6 +69,8 @@ module _ (program : Program) where
 
   kept_by : (s t : Plain) (command : Option Command) → IsNext (perform program command s) t → length t.space ≡ length s.space
   kept_by s t None h = absurd h
+  kept_by s t (Some (Set m op x a b c)) h = ap (λ (x : Plain). length x.space) (sym h)
+  kept_by s t (Some (Load m kind k x offset a)) h = ap (λ (x : Plain). length x.space) (sym h)
   kept_by s t (Some (Store kind k offset a b)) h = ap (λ (x : Plain). length x.space) (sym h) ∙ overlay_length (effective program k offset (value_of program a s)) _ s.space
   kept_by s t (Some (Test cond one other)) h = tested_keeps s t one.0 other.0 (value_of program cond s % 2 ^ 32 == 0) h
   kept_by s t (Some (Call callee)) h =
