@@ -40,7 +40,7 @@ use Rattle.bl_trace.proofs.StartFits.{answered_fits}
 use Rattle.bl_trace.proofs.WrittenTraces.{no_feeds, reads_back}
 use Rattle.bl_trace.specs.Observations.{observation_text}
 use Rattle.bl_trace.specs.Traces.{IsWritten, directive_of, directive_text, trace_of, trace_text}
-use Rattle.bl_words.specs.Requests.{AreTurnsInRange, PredictRequest}
+use Rattle.bl_words.specs.Requests.{AreDriveStepsInRange, PredictRequest}
 use Rattle.bl_build.specs.EntryStages.{Entered, Entry, Finds, IsImaged, Starts, entering, kinds_of, pages_of}
 use Rattle.bl_build.specs.TraceStages.{Speculated, Traced}
 use Rattle.bl_job.specs.Jobs.{Plan}
@@ -252,7 +252,7 @@ same_end entered steps (Some (returned values memories)) end e = refl
 same_end entered steps (Some (trapped kind memories)) end e = refl
 same_end entered steps None end e = cc
 
-pub followed : (request : PredictRequest) → AreTurnsInRange request.steps → (image start : List ℕ) (told : Plan) → (predict_job request).Does (image ∷ start ∷ []) told
+pub followed : (request : PredictRequest) → AreDriveStepsInRange request.steps → (image start : List ℕ) (told : Plan) → (predict_job request).Does (image ∷ start ∷ []) told
     → IsFollowed request image start told
 followed request within image start told h =
     let entered = h.made in

@@ -30,7 +30,7 @@ ghost use Rattle.bl_job.specs.Jobs.{AreRead, FirstRefusal, IsLawful, IsTotal, Pl
 ghost use Rattle.bl_job.specs.Refusals.{Refusal};
 ghost use Rattle.bl_app.specs.PartJob.{PartMeans};
 ghost use Rattle.bl_app.specs.PredictJob.{IsFollowed, predict_job};
-ghost use Rattle.bl_words.specs.Requests.{AreInRange, AreTurnsInRange, GenRequest, HardenRequest, InterpRequest, IsGenInRange, PartRequest, PredictRequest, Request, RunRequest, gen};
+ghost use Rattle.bl_words.specs.Requests.{AreInRange, AreDriveStepsInRange, GenRequest, HardenRequest, InterpRequest, IsGenInRange, PartRequest, PredictRequest, Request, RunRequest, gen};
 ghost use Rattle.bl_app.specs.VerifyJob.{IsVerified, VerifyDoes};
 ghost use Rattle.bl_job.specs.Worlds.{World};
 ghost use Rattle.bl_job.specs.declared.status.Status.{Status};
@@ -169,7 +169,7 @@ pub fn no_status_answers_all()
 /// directive is enabled, and it tells the same outcome, or that the machine hasn't ended where `predict` told that its steps were spent.
 #[tactic(auto, using(crate::proofs::PredictLemmas::followed))]
 pub fn kept_traces_run()
-    ensures { (request : PredictRequest) → AreTurnsInRange request.steps → (image start : Listed ℕ) (plan : Plan)
+    ensures { (request : PredictRequest) → AreDriveStepsInRange request.steps → (image start : Listed ℕ) (plan : Plan)
         → (predict_job request).Does (image ∷ start ∷ []) plan → IsFollowed request image start plan }
 {}
 
