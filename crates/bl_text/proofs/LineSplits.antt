@@ -1,8 +1,9 @@
 -- Lines and words by the places at which they end.
-use Rattle.std.proofs.Common.{◌≡◌, ℕ, ◌+◌, ◌<◌, ◌≤◌, Bool, true, false, cond, not, List, [], ◌∷◌, length, take, drop, ◌-◌, suc, refl, sym, ap, subst, ◌∙◌, arith, ◌==◌}
+use Rattle.std.proofs.Common.{◌≡◌, ℕ, ◌+◌, ◌<◌, ◌≤◌, Bool, true, false, cond, if◌then◌else◌, not, List, [], ◌∷◌, length, take, drop, get_or, ◌-◌, suc, refl, sym, ap, subst, ◌∙◌, arith, ◌==◌}
 use Rattle.std.proofs.lemmas.List.{take_all, take_rest, drop_all}
 use Rattle.std.proofs.lemmas.List.Splits.{slice_split_first}
-use Rattle.std.specs.List.{slice_split, onto_first, position_or_len, before_first, after_first}
+use Rattle.std.proofs.lemmas.List.Recursion.{is_count_by}
+use Rattle.std.specs.List.{count_by, slice_split, onto_first, position_or_len, before_first, after_first}
 use Rattle.bl_text.specs.Lines.{lines_of}
 
 -- where no element passes there is one part
@@ -81,3 +82,61 @@ few_lines (byte ∷ bytes) =
       | true ↦ omega (arith, rest)
       | false ↦ omega (arith, rest, longer_by_one byte (lines_of bytes))
     ]
+
+-- ---- how many there are
+
+-- a byte onto the first of some lines leaves as many, and one where there was none
+onto_one : (byte : ℕ) (lines : List (List ℕ)) → 0 < length (onto_first byte lines)
+onto_one byte [] = omega arith
+onto_one byte (line ∷ lines) = omega arith
+
+onto_some : (byte : ℕ) (lines : List (List ℕ)) → 0 < length lines → length (onto_first byte lines) ≡ length lines
+onto_some byte [] some = absurd (omega (arith, some))
+onto_some byte (line ∷ lines) some = refl
+
+-- bytes have a line
+some_line : (byte : ℕ) (bytes : List ℕ) → 0 < length (lines_of (byte ∷ bytes))
+some_line byte bytes =
+    elim (byte == 10) as (λ b. 0 < length (cond b ([] ∷ lines_of bytes) (onto_first byte (lines_of bytes)))) [
+      | true ↦ omega arith
+      | false ↦ onto_one byte (lines_of bytes)
+    ]
+
+-- a last line that lacks its LF, by its last byte
+abbrev lacking : ℕ → ℕ
+lacking byte = if byte == 10 then 0 else 1
+
+-- each LF ends a line, and the last one may lack it
+line_count : (byte : ℕ) (bytes : List ℕ) → length (lines_of (byte ∷ bytes)) ≡ count_by (λ b. b == 10) (byte ∷ bytes) + lacking (get_or (byte ∷ bytes) (length bytes) 0)
+line_count byte bytes =
+    go byte bytes ∙ ap (λ n. n + lacking (get_or (byte ∷ bytes) (length bytes) 0)) (is_count_by ended (λ b. b == 10) refl (λ byte bytes. refl) (byte ∷ bytes))
+  where
+    ended : List ℕ → ℕ
+    ended [] = 0
+    ended (byte ∷ bytes) = cond (byte == 10) (1 + ended bytes) (ended bytes)
+    go : (byte : ℕ) (bytes : List ℕ) → length (lines_of (byte ∷ bytes)) ≡ ended (byte ∷ bytes) + lacking (get_or (byte ∷ bytes) (length bytes) 0)
+    go byte [] = elim (byte == 10) as (λ b. length (cond b ([] ∷ []) (onto_first byte [])) ≡ cond b 1 0 + cond b 0 1) [ true ↦ refl | false ↦ refl ]
+    go byte (next ∷ bytes) =
+        let rest = go next bytes in
+        let same = onto_some byte (lines_of (next ∷ bytes)) (some_line next bytes) in
+        elim (byte == 10) as (λ b. length (cond b ([] ∷ lines_of (next ∷ bytes)) (onto_first byte (lines_of (next ∷ bytes)))) ≡
+        cond b (1 + ended (next ∷ bytes)) (ended (next ∷ bytes)) + lacking (get_or (next ∷ bytes) (length bytes) 0)) [
+          | true ↦ omega (arith, rest)
+          | false ↦ same ∙ rest
+        ]
+
+-- the last byte is an LF, or isn't
+pub whole_lines : (bytes : List ℕ) → 0 < length bytes → get_or bytes (length bytes - 1) 0 ≡ 10 → count_by (λ b. b == 10) bytes ≡ length (lines_of bytes)
+whole_lines [] some last = absurd (omega (arith, some))
+whole_lines (byte ∷ bytes) some last =
+    let there : suc (length bytes) - 1 ≡ length bytes = omega arith in
+    let none : lacking (get_or (byte ∷ bytes) (length bytes) 0) ≡ 0 = ap lacking (ap (λ n. get_or (byte ∷ bytes) n 0) (sym there) ∙ last) in
+    omega (arith, line_count byte bytes, none)
+
+pub lacking_line : (bytes : List ℕ) → 0 < length bytes → (get_or bytes (length bytes - 1) 0 ≡ 10 → ⊥) → count_by (λ b. b == 10) bytes + 1 ≡ length (lines_of bytes)
+lacking_line [] some last = absurd (omega (arith, some))
+lacking_line (byte ∷ bytes) some last =
+    let there : suc (length bytes) - 1 ≡ length bytes = omega arith in
+    let other : get_or (byte ∷ bytes) (length bytes) 0 ≡ 10 → ⊥ = λ e. last (ap (λ n. get_or (byte ∷ bytes) n 0) there ∙ e) in
+    let one : lacking (get_or (byte ∷ bytes) (length bytes) 0) ≡ 1 = grind (arith, other) in
+    omega (arith, line_count byte bytes, one)

@@ -1,5 +1,5 @@
 -- Texts of lines, which are read back line by line.
-use Rattle.std.proofs.Common.{◌≡◌, ◌∙◌, ap, refl, ℕ, suc, ◌==◌, ◌&&◌, not, Bool, true, false, List, [], ◌∷◌, ◌++◌, append_assoc, length, Option, Some, None, Ok, Err}
+use Rattle.std.proofs.Common.{◌≡◌, ◌∙◌, ap, refl, ℕ, suc, ◌==◌, not, true, List, [], ◌∷◌, ◌++◌, append_assoc, length, Option, Some, None, Ok, Err}
 use Rattle.std.specs.List.{All, flat_map, list_all, onto_first}
 use Rattle.std.proofs.lemmas.Bool.{and_parts, cond-false, not-true}
 use Rattle.std.proofs.lemmas.List.Elements.{All-head, All-tail}

@@ -1,5 +1,5 @@
 -- The answer of a file is what its lines tell.
-use Rattle.std.proofs.Common.{◌≡◌, ◌↔◌, ℕ, ◌+◌, ◌<◌, ◌≤◌, Bool, true, false, cond, suc, List, [], ◌∷◌, ◌++◌, length, Option, Some, None, Result, Ok, Err, refl, sym, ap, subst, ◌∙◌, arith, append_assoc, append-nil}
+use Rattle.std.proofs.Common.{◌≡◌, ◌↔◌, ℕ, ◌+◌, Bool, true, false, cond, suc, List, [], ◌∷◌, ◌++◌, length, Option, Some, None, Result, Ok, Err, refl, sym, ap, subst, ◌∙◌, arith, append_assoc, append-nil}
 use Rattle.std.proofs.lemmas.Bool.{le-ltb, lt-ltb, ltb-true, ltb-false}
 use Rattle.std.proofs.Math.Dec.{ltb}
 use Rattle.bl_base.specs.declared.names.ValueType.{ValueType}
@@ -8,7 +8,7 @@ use Rattle.bl_text.specs.Lines.{lines_of}
 use Rattle.bl_trace.specs.declared.entry.Entry.{Entry}
 use Rattle.bl_trace.specs.declared.entry.Entry.TheVariants.{Argument, Contents}
 use Rattle.bl_trace.specs.declared.error.StartError.{StartError}
-use Rattle.bl_trace.specs.declared.error.StartError.TheVariants.{Line, Count}
+use Rattle.bl_trace.specs.declared.error.StartError.TheVariants.{Count}
 use Rattle.bl_trace.specs.Lines.{entry_of}
 use Rattle.bl_trace.specs.StartFiles.{arguments_in, said_before, said, answer_by, answer_of}
 use Rattle.bl_trace.specs.StartAnswers.{arguments, patches, AreEntries, Tells, start, bad, few}

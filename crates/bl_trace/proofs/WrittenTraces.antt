@@ -1,5 +1,5 @@
 -- The line of a directive says it.
-use Rattle.std.proofs.Common.{◌≡◌, ◌∙◌, ap, refl, ℕ, ◌^◌, ◌<◌, Bool, true, false, ◌++◌, List, Option, Some, option_map, codes, arith}
+use Rattle.std.proofs.Common.{◌≡◌, ap, refl, ◌^◌, true, false, Some, option_map, arith}
 use Rattle.std.specs.Fmt.{decimal}
 use Rattle.bl_text.proofs.DecimalTexts.{are_digits, read_back}
 use Rattle.bl_text.proofs.LineTexts.{HasNoFeed, without_feeds}
