@@ -262,42 +262,38 @@ impl Unary {
     }
 }
 
+/// 1 where two numbers of one width compare so, else 0.
+macro_rules! compared {
+    ($comparison:expr, $a:expr, $b:expr) => {
+        match $comparison {
+            Comparison::Eq => u64::from($a == $b),
+            Comparison::Ne => u64::from($a != $b),
+            Comparison::LtS => u64::from($a.cast_signed() < $b.cast_signed()),
+            Comparison::LtU => u64::from($a < $b),
+            Comparison::GtS => u64::from($a.cast_signed() > $b.cast_signed()),
+            Comparison::GtU => u64::from($a > $b),
+            Comparison::LeS => u64::from($a.cast_signed() <= $b.cast_signed()),
+            Comparison::LeU => u64::from($a <= $b),
+            Comparison::GeS => u64::from($a.cast_signed() >= $b.cast_signed()),
+            Comparison::GeU => u64::from($a >= $b),
+        }
+    };
+}
+
 impl Comparison {
     /// At i32, with operands modulo 2^32.
     pub fn on_32(self, a: u64, b: u64) -> u64
         ensures { result ≡ comparison self 32 (a % 2 ^ 32) (b % 2 ^ 32) }
     {
         let (a, b) = (low(a), low(b));
-        match self {
-            Comparison::Eq => u64::from(a == b),
-            Comparison::Ne => u64::from(a != b),
-            Comparison::LtS => u64::from(a.cast_signed() < b.cast_signed()),
-            Comparison::LtU => u64::from(a < b),
-            Comparison::GtS => u64::from(a.cast_signed() > b.cast_signed()),
-            Comparison::GtU => u64::from(a > b),
-            Comparison::LeS => u64::from(a.cast_signed() <= b.cast_signed()),
-            Comparison::LeU => u64::from(a <= b),
-            Comparison::GeS => u64::from(a.cast_signed() >= b.cast_signed()),
-            Comparison::GeU => u64::from(a >= b),
-        }
+        compared!(self, a, b)
     }
 
     /// At i64.
     pub fn on_64(self, a: u64, b: u64) -> u64
         ensures { result ≡ comparison self 64 a b }
     {
-        match self {
-            Comparison::Eq => u64::from(a == b),
-            Comparison::Ne => u64::from(a != b),
-            Comparison::LtS => u64::from(a.cast_signed() < b.cast_signed()),
-            Comparison::LtU => u64::from(a < b),
-            Comparison::GtS => u64::from(a.cast_signed() > b.cast_signed()),
-            Comparison::GtU => u64::from(a > b),
-            Comparison::LeS => u64::from(a.cast_signed() <= b.cast_signed()),
-            Comparison::LeU => u64::from(a <= b),
-            Comparison::GeS => u64::from(a.cast_signed() >= b.cast_signed()),
-            Comparison::GeU => u64::from(a >= b),
-        }
+        compared!(self, a, b)
     }
 }
 
