@@ -7,7 +7,7 @@ use Rattle.bl_cmd.proofs.TableLemmas.{and_some, some_and}
 use Rattle.bl_cmd.specs.Rules.{GoesTo}
 use Rattle.bl_cmd.specs.Entrants.{Goes, Spans, AreNoted, AreEntrants, joined, with_entrant, with_entrants}
 use Rattle.bl_cmd.specs.declared.command.Command.{Command}
-use Rattle.bl_cmd.specs.declared.command.Command.TheVariants.{Set, Load, Store, Test, Jump, Arg, Call, Out, Ret, Trap}
+use Rattle.bl_cmd.specs.declared.command.Command.TheVariants.{Set, Load, Test, Jump}
 use Rattle.bl_cmd.specs.declared.tables.Entrants.{Entrants}
 
 -- what is known of an equal relation

@@ -1,6 +1,6 @@
 -- A worked run: a function that adds 1 to its argument, and its rules.
-use Rattle.std.proofs.Common.{◌≡◌, ℕ, List, [], ◌∷◌, refl}
-use Rattle.bl_base.specs.Runs.{Outcome, returned, EndsAfter, last, more}
+use Rattle.std.proofs.Common.{◌≡◌, [], ◌∷◌, refl}
+use Rattle.bl_base.specs.Runs.{returned, EndsAfter, last, more}
 use Rattle.bl_base.specs.Trap.{kinds}
 use Rattle.std.specs.Prelude.{map, take, ◌++◌, true, false}
 use Rattle.bl_base.specs.declared.names.Label.TheVariants.{Public}
@@ -13,7 +13,6 @@ use Rattle.bl_cmd.specs.Outcomes.{opening}
 use Rattle.bl_cmd.specs.Rules.{variable}
 use Rattle.bl_cmd.specs.Sites.{weight_of}
 use Rattle.bl_cmd.specs.Steps.{plain_step}
-use Rattle.bl_cmd.specs.declared.command.Command.{Command}
 use Rattle.bl_cmd.specs.declared.command.Command.TheVariants.{Set, Jump, Out, Ret, Trap}
 use Rattle.bl_cmd.specs.declared.command.Mark.{Mark}
 use Rattle.bl_cmd.specs.declared.command.Operand.TheVariants.{Const}

@@ -1,10 +1,10 @@
 -- Numbers of a program are of their widths, since a number of a definition has no bound of its own.
-use Rattle.std.specs.Prelude.{◌≡◌, ℕ, ◌^◌, ◌<◌, length, All}
+use Rattle.std.specs.Prelude.{◌≡◌, ◌^◌, ◌<◌, length, All}
 use Rattle.bl_base.specs.Fits.{AreBytes}
 use Rattle.bl_cmd.specs.declared.command.Operand.{Operand}
 use Rattle.bl_cmd.specs.declared.command.Operand.TheVariants as operands
 use Rattle.bl_cmd.specs.declared.command.Command.{Command}
-use Rattle.bl_cmd.specs.declared.command.Command.TheVariants.{Set, Load, Store, Test, Jump, Arg, Call, Out, Ret, Trap}
+use Rattle.bl_cmd.specs.declared.command.Command.TheVariants.{Set, Load, Store, Test, Arg, Out}
 use Rattle.bl_cmd.specs.declared.definitions.ProgramParts.{ProgramParts as Program}
 
 -- a constant is a number of 64 bits

@@ -33,6 +33,14 @@ impl Model for Program {
 }
 
 impl Program {
+    /// Parts that are those of a program, as one; takes no memory.
+    pub(crate) fn from_parts(parts: ProgramParts) -> Program
+        requires { IsProgram parts }
+        ensures { result ≡ parts }
+    {
+        Program { parts }
+    }
+
     /// The parts as a program; where they aren't those of one they come back unchanged. Linear in the commands and the
     /// functions; takes no memory.
     pub fn of(parts: ProgramParts) -> Result<Program, ProgramParts>

@@ -1,7 +1,9 @@
 //! Well-formed programs.
 ghost use Rattle.std.specs.Prelude.{◌≡◌};
+ghost use Rattle.bl_cmd.specs.Programs.{IsProgram};
 ghost use Rattle.bl_cmd.specs.Rules.{IsWellFormed};
 
+use crate::definitions::ProgramParts;
 use crate::program::Program;
 use std::marker::Model;
 
@@ -30,6 +32,15 @@ impl WellFormed {
         ensures { result ≡ program }
     {
         WellFormed { program }
+    }
+
+    /// Parts that are those of a program and keep the rules, as one; takes no memory.
+    pub fn from_parts(parts: ProgramParts) -> WellFormed
+        requires program { IsProgram parts }
+        requires rules { IsWellFormed parts }
+        ensures { result ≡ parts }
+    {
+        WellFormed::of(Program::from_parts(parts))
     }
 
     /// The program, and that it keeps the rules; takes no memory.

@@ -4,7 +4,7 @@ ghost use Rattle.std.specs.FinSet as fin;
 ghost use Rattle.bl_cut.specs.Marks.{guarded, marked, marked_from, protected};
 
 use bl_base::{List, Pos, SiteSet};
-use bl_cmd::{Command, Mark, Program, ProgramParts, WellFormed};
+use bl_cmd::{Command, Mark, ProgramParts, WellFormed};
 
 /// The program in which exactly the sites of the set are protected; all else stays. What is no site is passed over. Linear in
 /// the commands, but for the logarithm of how many positions from 1,048,576 on the set has; takes no memory.
@@ -14,7 +14,7 @@ pub fn protect(program: WellFormed, protects: &SiteSet) -> WellFormed
     let parts = program.into_program().into_parts();
     let mut commands = parts.commands.into_vec();
     mark_all(&mut commands, protects);
-    let marked = Program::of(ProgramParts {
+    WellFormed::from_parts(ProgramParts {
         globals: parts.globals,
         memories: parts.memories,
         functions: parts.functions,
@@ -22,11 +22,7 @@ pub fn protect(program: WellFormed, protects: &SiteSet) -> WellFormed
         commands: List::of(commands),
         demands: parts.demands,
         weights: parts.weights,
-    });
-    match marked {
-        Ok(program) => WellFormed::of(program),
-        Err(_) => unreachable!(),
-    }
+    })
 }
 
 /// Protects exactly those commands whose positions are in the set.

@@ -23,7 +23,7 @@ use crate::shift::Shift;
 use crate::tables::goals_of;
 use bl_base::{List, NoMemory};
 use bl_cmd::{
-    Command, Demand, ExportDef, FIRST_ENTRY, FunctionDef, MemoryDef, Program, ProgramParts,
+    Command, Demand, ExportDef, FIRST_ENTRY, FunctionDef, MemoryDef, ProgramParts,
     SiteWeight, WellFormed, firsts_of,
 };
 use std::alloc::Global;
@@ -74,7 +74,7 @@ pub fn join(
         theirs.as_slice(),
     )?;
     let parts = joined_parts(alloc, client, library, iface, goals.as_slice(), kept)?;
-    Ok(assembled(parts))
+    Ok(WellFormed::from_parts(parts))
 }
 
 /// Tests whether the two can be joined to a well-formed program; the first thing that stands against it is the error.
@@ -362,17 +362,5 @@ fn library_shift(client: &ProgramParts) -> Shift
         memories: client.memories.len() as u32,
         functions: client.functions.len() as u32,
         commands: (client.commands.len() - FIRST_ENTRY as usize) as u32,
-    }
-}
-
-/// The parts as a well-formed program; takes no memory.
-fn assembled(parts: ProgramParts) -> WellFormed
-    requires program { IsProgram parts }
-    requires rules { IsWellFormed parts }
-    ensures { result ≡ parts }
-{
-    match Program::of(parts) {
-        Ok(program) => WellFormed::of(program),
-        Err(_) => unreachable!(),
     }
 }
