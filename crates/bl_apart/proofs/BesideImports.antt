@@ -15,6 +15,8 @@ use Rattle.bl_wasm.specs.declared.module.ImportKind.TheVariants as import
 use Rattle.bl_wasm.specs.declared.module.ExportKind.{ExportKind}
 use Rattle.bl_wasm.specs.declared.module.ExportKind.TheVariants as export
 use Rattle.bl_wasm.specs.declared.module.Module.{Module}
+use Rattle.bl_wasm.specs.declared.types.GlobalType.{GlobalType}
+use Rattle.bl_wasm.specs.declared.types.Limits.{Limits}
 use Rattle.bl_apart.specs.BesideStores.{EntryAlike, ExportsBeside, IsGiven, IsKnown, Setting, StoresBeside, ValueAlike}
 use Rattle.bl_link.specs.ExportNames.{qualified, value_named}
 use Rattle.bl_link.specs.ImportMatches.{given, given_of, matches, named}
@@ -107,33 +109,14 @@ abbrev one_of : ExportKind → ExportKind → ℕ → Option ℕ
 one_of kind is number = if same_kind kind is then Some number else None
 
 module _ (store : Store) (wasm : Module) where
-  function_one : (wanted : ImportKind) (kind : ExportKind) (number : ℕ) → matches store wasm wanted kind number ≡ true → Both Any (function_of wanted) (one_of export.Function kind number)
-  function_one (import.Function index) export.Function number h = tt
-  function_one (import.Table limits) export.Table number h = tt
-  function_one (import.Memory limits) export.Memory number h = tt
-  function_one (import.Global type) export.Global number h = tt
-  function_one wanted kind number h = absurd (cc h)
-
-  table_one : (wanted : ImportKind) (kind : ExportKind) (number : ℕ) → matches store wasm wanted kind number ≡ true → Both Any (table_of wanted) (one_of export.Table kind number)
-  table_one (import.Function index) export.Function number h = tt
-  table_one (import.Table limits) export.Table number h = tt
-  table_one (import.Memory limits) export.Memory number h = tt
-  table_one (import.Global type) export.Global number h = tt
-  table_one wanted kind number h = absurd (cc h)
-
-  memory_one : (wanted : ImportKind) (kind : ExportKind) (number : ℕ) → matches store wasm wanted kind number ≡ true → Both Any (memory_of wanted) (one_of export.Memory kind number)
-  memory_one (import.Function index) export.Function number h = tt
-  memory_one (import.Table limits) export.Table number h = tt
-  memory_one (import.Memory limits) export.Memory number h = tt
-  memory_one (import.Global type) export.Global number h = tt
-  memory_one wanted kind number h = absurd (cc h)
-
-  global_one : (wanted : ImportKind) (kind : ExportKind) (number : ℕ) → matches store wasm wanted kind number ≡ true → Both Any (global_of wanted) (one_of export.Global kind number)
-  global_one (import.Function index) export.Function number h = tt
-  global_one (import.Table limits) export.Table number h = tt
-  global_one (import.Memory limits) export.Memory number h = tt
-  global_one (import.Global type) export.Global number h = tt
-  global_one wanted kind number h = absurd (cc h)
+  -- what matches is of the same kind
+  same_kinds : (P : ImportKind → ExportKind → Type 0) → ((index : ℕ) → P (import.Function index) export.Function) → ((limits : Limits) → P (import.Table limits) export.Table) → ((limits : Limits) → P (import.Memory limits) export.Memory)
+      → ((type : GlobalType) → P (import.Global type) export.Global) → (wanted : ImportKind) (kind : ExportKind) (number : ℕ) → matches store wasm wanted kind number ≡ true → P wanted kind
+  same_kinds P f t m g (import.Function index) export.Function number h = f index
+  same_kinds P f t m g (import.Table limits) export.Table number h = t limits
+  same_kinds P f t m g (import.Memory limits) export.Memory number h = m limits
+  same_kinds P f t m g (import.Global type) export.Global number h = g type
+  same_kinds P f t m g wanted kind number h = absurd (cc h)
 
   counted : {A D : Type 0} (of : ImportKind → Option A) (kind : ExportKind) → ((wanted : ImportKind) (k : ExportKind) (number : ℕ) → matches store wasm wanted k number ≡ true → Both Any (of wanted) (one_of kind k number))
       → (defined : List A) (others : List D) (base : ℕ) (values : List External) → AllZip (Suits store wasm) wasm.imports values → length defined ≡ length others
@@ -149,13 +132,13 @@ module _ (store : Store) (wasm : Module) where
 
   module _ (values : List External) (suit : AllZip (Suits store wasm) wasm.imports values) where
     pub functions_counted : length (functions_of wasm) ≡ length (spaces_of store wasm values).functions
-    functions_counted = counted function_of export.Function function_one wasm.functions wasm.functions (length store.tree.functions) values suit refl
+    functions_counted = counted function_of export.Function (λ wanted kind number. same_kinds (λ w k. Both Any (function_of w) (one_of export.Function k number)) (λ _. tt) (λ _. tt) (λ _. tt) (λ _. tt) wanted kind number) wasm.functions wasm.functions (length store.tree.functions) values suit refl
 
     pub tables_counted : length (tables_of wasm) ≡ length (spaces_of store wasm values).tables
-    tables_counted = counted table_of export.Table table_one wasm.tables wasm.tables (length store.tree.tables) values suit refl
+    tables_counted = counted table_of export.Table (λ wanted kind number. same_kinds (λ w k. Both Any (table_of w) (one_of export.Table k number)) (λ _. tt) (λ _. tt) (λ _. tt) (λ _. tt) wanted kind number) wasm.tables wasm.tables (length store.tree.tables) values suit refl
 
     pub memories_counted : length (memories_of wasm) ≡ length (spaces_of store wasm values).memories
-    memories_counted = counted memory_of export.Memory memory_one wasm.memories wasm.memories (length store.tree.memories) values suit refl
+    memories_counted = counted memory_of export.Memory (λ wanted kind number. same_kinds (λ w k. Both Any (memory_of w) (one_of export.Memory k number)) (λ _. tt) (λ _. tt) (λ _. tt) (λ _. tt) wanted kind number) wasm.memories wasm.memories (length store.tree.memories) values suit refl
 
     pub globals_counted : length (globals_of wasm) ≡ length (spaces_of store wasm values).globals
-    globals_counted = counted global_of export.Global global_one (map (λ global. global.kind) wasm.globals) wasm.globals (length store.tree.globals) values suit (length-map wasm.globals (λ global. global.kind))
+    globals_counted = counted global_of export.Global (λ wanted kind number. same_kinds (λ w k. Both Any (global_of w) (one_of export.Global k number)) (λ _. tt) (λ _. tt) (λ _. tt) (λ _. tt) wanted kind number) (map (λ global. global.kind) wasm.globals) wasm.globals (length store.tree.globals) values suit (length-map wasm.globals (λ global. global.kind))

@@ -1,42 +1,41 @@
 -- A program without marks and weights runs as it does with them, and has the same sites.
-use Rattle.std.proofs.Common.{◌≡◌, ℕ, zero, suc, Bool, List, [], ◌∷◌, length, map, Option, Some, None, refl, sym, ap, subst, ◌∙◌}
+use Rattle.std.proofs.Common.{◌≡◌, ℕ, zero, suc, Bool, List, [], ◌∷◌, length, map, Option, Some, None, refl, sym, ap, ◌∙◌}
 use Rattle.std.specs.Prelude.{is_some, option_map, option_and_then}
 use Rattle.std.proofs.Math.Path.{fun_ext}
 use Rattle.std.proofs.lemmas.List.{length-map}
 use Rattle.std.proofs.lemmas.Option.{slice_get-map}
-use Rattle.bl_base.specs.Runs.{EndsAfter, Next, Outcome}
+use Rattle.bl_base.specs.Runs.{Next, Outcome}
 use Rattle.bl_base.specs.declared.start.Start.{Start}
 use Rattle.bl_cmd.specs.Layout.{command_at}
 use Rattle.bl_cmd.specs.Outcomes.{opening, plain}
 use Rattle.bl_cmd.specs.Sites.{mark_of}
-use Rattle.bl_cmd.specs.Steps.{Plain, perform, plain_step, ret}
+use Rattle.bl_cmd.specs.Steps.{Plain}
 use Rattle.bl_cmd.specs.declared.command.Mark.{Mark}
 use Rattle.bl_cmd.specs.declared.command.Command.{Command}
-use Rattle.bl_cmd.specs.declared.command.Command.TheVariants.{Set, Ret}
+use Rattle.bl_cmd.specs.declared.command.Command.TheVariants.{Set}
 use Rattle.bl_cmd.specs.declared.definitions.ProgramParts.{ProgramParts as Program}
+use Rattle.bl_cut.proofs.Remarked.{remarked, run_back, run_same, steps_same, unchanged}
 use Rattle.bl_cut.specs.Marks.{marked, marked_from, protected}
-use Rattle.bl_counts.specs.RunCounts.{bare, bare_command, counts_from, counts_of, executed, is_site, stepped, times, weighed, with_count}
+use Rattle.bl_counts.specs.RunCounts.{bare, bare_command, counts_from, counts_of, executed, is_site, no_mark, stepped, times, weighed, with_count}
 use Rattle.bl_counts.specs.declared.counts.SiteCount.{SiteCount}
 
-module _ (program : Program) where
-  performs : (command : Command) (s : Plain) → perform (bare program) (Some (bare_command command)) s ≡ perform program (Some command) s
-  performs Ret s = returns s.chain
-    where
-      returns : (chain : List ℕ) → ret (bare program) chain s ≡ ret program chain s
-      returns [] = refl
-      returns (back ∷ chain) = refl
-  performs _ s = refl
+bare_is : (command : Command) → bare_command command ≡ remarked (λ mark. no_mark) command
+bare_is (Set mark op to a c d) = refl
+bare_is _ = refl
 
-  steps_same : (s : Plain) → plain_step (bare program) s ≡ plain_step program s
-  steps_same s = ap (λ o. perform (bare program) o s) (slice_get-map bare_command program.commands s.position) ∙ by (command_at program s.position)
-    where
-      by : (o : Option Command) → perform (bare program) (option_map bare_command o) s ≡ perform program o s
-      by None = refl
-      by (Some command) = performs command s
+module _ (program : Program) where
+  bare_alike : (s : ℕ) → command_at (bare program) s ≡ option_map (remarked (λ mark. no_mark)) (command_at program s)
+  bare_alike s = slice_get-map bare_command program.commands s ∙ ap (λ (mark : Command → Command). option_map mark (command_at program s)) (fun_ext bare_is)
+
+  pub runs_marked : (function : ℕ) (start : Start) (steps : ℕ) (outcome : Outcome) → plain (bare program) function start steps outcome → plain program function start steps outcome
+  runs_marked = run_same program (map bare_command program.commands) [] (λ s mark. no_mark) bare_alike
+
+  pub runs_bare : (function : ℕ) (start : Start) (steps : ℕ) (outcome : Outcome) → plain program function start steps outcome → plain (bare program) function start steps outcome
+  runs_bare = run_back program (map bare_command program.commands) [] (λ s mark. no_mark) bare_alike
 
   runs_same : (function : ℕ) (start : Start) (steps : ℕ) → executed (bare program) function start steps ≡ executed program function start steps
   runs_same function start steps =
-      ap (λ (step : Plain → Next Plain). map (λ (s : Plain). s.position) (stepped step steps (opening program function start))) (fun_ext steps_same)
+      ap (λ (step : Plain → Next Plain). map (λ (s : Plain). s.position) (stepped step steps (opening program function start))) (steps_same program (map bare_command program.commands) [] (λ s mark. no_mark) bare_alike)
 
   sites_same : (s : ℕ) → is_site (bare program) s ≡ is_site program s
   sites_same s = ap (λ o. is_some (option_and_then mark_of o)) (slice_get-map bare_command program.commands s) ∙ by (command_at program s)
@@ -89,18 +88,11 @@ counted_alike program other function start steps same =
 -- ---- weights don't show in a run
 
 module _ (program : Program) (counts : List SiteCount) (function : ℕ) (start : Start) (steps : ℕ) (outcome : Outcome) where
-  steps_alike : plain_step (weighed counts program) ≡ plain_step program
-  steps_alike = fun_ext (λ s. sym (steps_same (weighed counts program) s) ∙ steps_same program s)
-
   pub runs_unweighed : plain (weighed counts program) function start steps outcome → plain program function start steps outcome
-  runs_unweighed h =
-      let fits = h.start_fits in
-      record { start_fits = record { defined = fits.defined; exists = fits.exists; fits = fits.fits }; run = subst (λ step. EndsAfter step steps (opening program function start) outcome) steps_alike h.run }
+  runs_unweighed = run_same program program.commands (weighed counts program).weights (λ s mark. mark) (λ s. unchanged (command_at program s)) function start steps outcome
 
   pub runs_weighed : plain program function start steps outcome → plain (weighed counts program) function start steps outcome
-  runs_weighed h =
-      let fits = h.start_fits in
-      record { start_fits = record { defined = fits.defined; exists = fits.exists; fits = fits.fits }; run = subst (λ step. EndsAfter step steps (opening program function start) outcome) (sym steps_alike) h.run }
+  runs_weighed = run_back program program.commands (weighed counts program).weights (λ s mark. mark) (λ s. unchanged (command_at program s)) function start steps outcome
 
 -- ---- protects are marks
 

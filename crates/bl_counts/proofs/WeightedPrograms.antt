@@ -1,6 +1,6 @@
 -- A program with weights by counts: what its sites weigh, and that it is well-formed.
-use Rattle.std.proofs.Common.{◌≡◌, ℕ, zero, suc, ◌+◌, ◌*◌, ◌^◌, ◌<◌, ◌≤◌, ◌⊎◌, inl, inr, Bool, true, false, List, [], ◌∷◌, length, Option, Some, None, slice_get, unwrap_or, refl, sym, ap, subst, ◌∙◌, arith}
-use Rattle.std.specs.Prelude.{◌==◌, ◌&&◌, IsSome, is_some, IfSome, option_map, option_and_then, if◌then◌else◌, find}
+use Rattle.std.proofs.Common.{◌≡◌, ℕ, zero, suc, ◌+◌, ◌*◌, ◌^◌, ◌<◌, ◌≤◌, inl, inr, Bool, true, false, List, [], ◌∷◌, length, Option, Some, None, slice_get, unwrap_or, refl, sym, ap, subst, ◌∙◌, arith}
+use Rattle.std.specs.Prelude.{◌==◌, ◌&&◌, IsSome, is_some, option_map, option_and_then, if◌then◌else◌, find}
 use Rattle.std.specs.List.{All, AllPairs}
 use Rattle.std.proofs.lemmas.Bool.{ne_eqb, eq-eqb, cases_eq}
 use Rattle.std.proofs.lemmas.List.Elements.{All-cons, All-nil}
@@ -8,16 +8,15 @@ use Rattle.std.proofs.lemmas.List.Kept.{AllPairs-cons}
 use Rattle.std.proofs.lemmas.List.Sums.{sum_by-cons}
 use Rattle.bl_base.specs.Sums.{sum_below}
 use Rattle.bl_base.proofs.Sums.{sum_same, sum_le, sum_plus, sum_none, sum_bound}
-use Rattle.bl_cmd.specs.Layout.{Holds}
+use Rattle.bl_cmd.specs.Layout.{command_at}
 use Rattle.bl_cmd.specs.Programs.{IsProgram}
-use Rattle.bl_cmd.specs.Rules.{Rule6, Rule8, Rule9, IsPassed, IsGuarded, Reach, reach_of, IsTested, IsSum, IsGrowth, IsWeight, IsWellFormed}
+use Rattle.bl_cmd.specs.Rules.{Rule9, IsWeight, IsWellFormed}
 use Rattle.bl_cmd.specs.Sites.{mark_of, mark_at, listed, site_weight, weight_of}
 use Rattle.bl_cmd.specs.declared.command.Mark.{Mark}
-use Rattle.bl_cmd.specs.declared.command.Operand.{Operand}
 use Rattle.bl_cmd.specs.declared.command.Command.{Command}
-use Rattle.bl_cmd.specs.declared.command.Command.TheVariants.{Set}
 use Rattle.bl_cmd.specs.declared.definitions.ProgramParts.{ProgramParts as Program}
 use Rattle.bl_cmd.specs.declared.definitions.SiteWeight.{SiteWeight}
+use Rattle.bl_cut.proofs.Remarked.{keeps_rules, unchanged}
 use Rattle.bl_counts.specs.RunCounts.{count_in, is_site, size_of, total, weight_by, weighed, weighed_by, weights_from, with_weight}
 use Rattle.bl_counts.specs.declared.counts.SiteCount.{SiteCount}
 
@@ -128,84 +127,6 @@ module _ (count : ℕ → ℕ) (program : Program) where
 
   -- ---- the rules
 
-  holds_back : (function position : ℕ) → Holds after function position → Holds program function position
-  holds_back function position h = record { exists = h.exists; from = h.from; below = h.below }
-
-  holds_on : (function position : ℕ) → Holds program function position → Holds after function position
-  holds_on function position h = record { exists = h.exists; from = h.from; below = h.below }
-
-  passed_on : (position : ℕ) → IsPassed program position → IsPassed after position
-  passed_on position h = record { entries = h.entries; others = h.others }
-
-  guarded_on : (before position : ℕ) → IsGuarded program before position → IsGuarded after before position
-  guarded_on before position h = record { entries = h.entries; others = h.others }
-
-  target_on : (function target : ℕ) → (target < 7) ⊎ Holds program function target → (target < 7) ⊎ Holds after function target
-  target_on function target (inl low) = inl low
-  target_on function target (inr holds) = inr (holds_on function target holds)
-
-  rule6_on : (function : ℕ) (command : Command) → Rule6 program function command → Rule6 after function command
-  rule6_on function (Set mark op to a c d) r = r
-  rule6_on function _ r = r
-
-  tested_on : (function position : ℕ) (access : Reach) → IsTested program function position access → IsTested after function position access
-  tested_on function position access h = record {
-    first = h.first;
-    mark = h.mark;
-    t = h.t;
-    yes = h.yes;
-    place = h.place;
-    within = holds_on function h.first h.within;
-    set = h.set;
-    test = h.test;
-    own = h.own;
-    apart = h.apart;
-    away = h.away;
-    test_passed = passed_on (suc h.first) h.test_passed;
-    guarded = guarded_on (suc h.first) position h.guarded;
-  }
-
-  rule7_on : (function position : ℕ) (o : Option Reach) → IfSome o (IsTested program function position) → IfSome o (IsTested after function position)
-  rule7_on function position None r = r
-  rule7_on function position (Some access) r = tested_on function position access r
-
-  sum_on : (memory : ℕ) (op : _) (a c : Operand) → IsSum program memory op a c → IsSum after memory op a c
-  sum_on memory op a c h = record { sum = h.sum; from_size = h.from_size; no_third = h.no_third }
-
-  growth_on : (function position memory : ℕ) (delta : Operand) → IsGrowth program function position memory delta → IsGrowth after function position memory delta
-  growth_on function position memory delta h = record {
-    first = h.first;
-    mark_r = h.mark_r;
-    mark_t = h.mark_t;
-    mark_v = h.mark_v;
-    r = h.r;
-    t = h.t;
-    v = h.v;
-    yes = h.yes;
-    reserve = h.reserve;
-    place = h.place;
-    reserved = h.reserved;
-    room = h.room;
-    exceeds = h.exceeds;
-    test = h.test;
-    old = h.old;
-    own_r = h.own_r;
-    own_t = h.own_t;
-    own_v = h.own_v;
-    apart_r = h.apart_r;
-    apart_t = h.apart_t;
-    apart_v = h.apart_v;
-    away = h.away;
-    passed_t = passed_on (suc h.first) h.passed_t;
-    passed_test = passed_on (suc (suc h.first)) h.passed_test;
-    guarded = guarded_on (suc (suc h.first)) (suc (suc (suc h.first))) h.guarded;
-    passed_size = passed_on position h.passed_size;
-  }
-
-  rule8_on : (function position : ℕ) (command : Command) → Rule8 program function position command → Rule8 after function position command
-  rule8_on function position (Set mark op to a c d) r = λ memory lt e. let h = r memory lt e in (sum_on memory op a d h.0, growth_on function position memory c h.1)
-  rule8_on function position _ r = r
-
   rule9_on : weight_of after (λ _. true) < 2 ^ 63 → Rule9 program → Rule9 after
   rule9_on small r = record {
     demands_rise = r.demands_rise;
@@ -223,20 +144,8 @@ module _ (count : ℕ → ℕ) (program : Program) where
   pub is_program : IsProgram program → IsProgram after
   is_program h = record { commands = h.commands; traps = h.traps; lengths = h.lengths }
 
-  pub keeps_rules : weight_of after (λ _. true) < 2 ^ 63 → IsWellFormed program → IsWellFormed after
-  keeps_rules small w = record {
-    rule1 = record { memories = w.rule1.memories; total = w.rule1.total };
-    rule2 = record { functions = w.rule2.functions; each = w.rule2.each; variables = w.rule2.variables; commands = w.rule2.commands; globals = w.rule2.globals };
-    rule3 = record { distinct = w.rule3.distinct; exist = w.rule3.exist };
-    rule4 = λ position function command holds e. let r = w.rule4 position function command (holds_back function position holds) e in record { reads = r.reads; writes = r.writes };
-    rule5 = λ position function command holds e.
-        let r = w.rule5 position function command (holds_back function position holds) e in
-        record { targets = λ target goes. target_on function target (r.targets target goes); last = r.last };
-    rule6 = λ position function command holds e. rule6_on function command (w.rule6 position function command (holds_back function position holds) e);
-    rule7 = λ position function command holds e. rule7_on function position (reach_of command) (w.rule7 position function command (holds_back function position holds) e);
-    rule8 = λ position function command holds e. rule8_on function position command (w.rule8 position function command (holds_back function position holds) e);
-    rule9 = rule9_on small w.rule9;
-  }
+  pub weighed_rules : weight_of after (λ _. true) < 2 ^ 63 → IsWellFormed program → IsWellFormed after
+  weighed_rules small w = keeps_rules program program.commands (weights_from count 0 program.commands) (λ s mark. mark) (λ s. unchanged (command_at program s)) (λ s mark is. is) refl w (rule9_on small w.rule9)
 
 -- ---- the sum of all weights
 
@@ -264,7 +173,7 @@ within_total m (one ∷ others) =
 
 -- a program weighed by counts that add up to less than 2^32 is well-formed
 pub is_well_formed : (program : Program) (counts : List SiteCount) → total counts < 2 ^ 32 → IsWellFormed program → IsWellFormed (weighed counts program)
-is_well_formed program counts small w = keeps_rules (count_in counts) program below w
+is_well_formed program counts small w = weighed_rules (count_in counts) program below w
   where
     least : (b : Bool) (n : ℕ) → (if b then n else 0) ≤ n
     least true n = omega arith

@@ -6,6 +6,7 @@ pub mod MarkedGraphs
 pub mod TransientNodes
 pub mod LeastSites
 pub mod MarkedPrograms
+pub mod Remarked
 pub mod MarkedRuns
 pub mod NetworkLemmas
 pub mod MarksAndPassing

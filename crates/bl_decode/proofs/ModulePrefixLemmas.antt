@@ -8,7 +8,7 @@ use Rattle.bl_code.specs.Unique.{Same}
 use Rattle.bl_code.proofs.Unique.{byte_same, seq_same, byte_vec_prefix_free, each_same, u32_same}
 use Rattle.bl_base.proofs.Lists.{rest_same}
 use Rattle.bl_decode.specs.Laws.{code_entry_prefix_free}
-use Rattle.bl_decode.specs.ModulePrefixes.{EarlyContents, custom, types, imports, functions, tables, memories, globals, exports, start, elements, early_section, BeginsCode, BeginsFrom, code, custom_first, next, header, BeginsWith, AreBodies}
+use Rattle.bl_decode.specs.ModulePrefixes.{EarlyContents, custom, early_section, BeginsCode, BeginsFrom, code, custom_first, next, header, BeginsWith, AreBodies}
 
 -- a whole section by its id and its contents, whatever they are
 abbrev pub Shaped : ℕ → List ℕ → Spellings
@@ -45,15 +45,7 @@ not_code id contents front rest t other s e =
 -- such contents have an id below 10
 pub below_ten : (id : ℕ) (bytes : List ℕ) → EarlyContents id bytes → id < 10
 below_ten id bytes (custom _ x s) = omega arith
-below_ten id bytes (types _ x s) = omega arith
-below_ten id bytes (imports _ x s) = omega arith
-below_ten id bytes (functions _ x s) = omega arith
-below_ten id bytes (tables _ x s) = omega arith
-below_ten id bytes (memories _ x s) = omega arith
-below_ten id bytes (globals _ x s) = omega arith
-below_ten id bytes (exports _ x s) = omega arith
-below_ten id bytes (start _ x s) = omega arith
-below_ten id bytes (elements _ x s) = omega arith
+below_ten id bytes _ = omega arith
 
 pub not_ten : (id : ℕ) (bytes : List ℕ) → EarlyContents id bytes → id ≡ 10 → ⊥
 not_ten id bytes h ten = let below = below_ten id bytes h in omega arith

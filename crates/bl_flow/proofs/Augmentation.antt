@@ -84,31 +84,25 @@ module _ (old now after trail : List ℕ) (amount index half t : ℕ) (so_far : 
         | inr other ↦ let same = moved.others (slice_index trail place) differs other in let old_left = so_far.left place (omega arith) below in omega arith
       ]
 
+  -- at two places that lie half of all apart
+  kept_at : (a b : ℕ) → b ≡ a + half → slice_index after a + slice_index after b ≡ slice_index now a + slice_index now b → ((k : ℕ) → (k ≡ a → ⊥) → (k ≡ b → ⊥) → slice_index after k ≡ slice_index now k)
+      → a < half → (k : ℕ) → k < half → slice_index after k + slice_index after (k + half) ≡ slice_index now k + slice_index now (k + half)
+  kept_at a b apart_ both others low k below =
+      elim (cases_eq k a) as (λ _. slice_index after k + slice_index after (k + half) ≡ slice_index now k + slice_index now (k + half)) [
+        | inl e ↦
+            let kb : k + half ≡ b = omega arith in
+            let a = ap (slice_index after) e in let b = ap (slice_index now) e in let c = ap (slice_index after) kb in let d = ap (slice_index now) kb in omega arith
+        | inr differs ↦
+            let a = others k differs (λ q. omega arith) in
+            let b = others (k + half) (λ q. omega arith) (λ q. differs (omega arith)) in omega arith
+      ]
+
   sum_here : (k : ℕ) → k < half → slice_index after k + slice_index after (k + half) ≡ slice_index now k + slice_index now (k + half)
   sum_here k below =
+      let here_ = moved.here_ in let there = moved.there in
       elim pair as (λ _. slice_index after k + slice_index after (k + half) ≡ slice_index now k + slice_index now (k + half)) [
-        | inl forward ↦
-            let jt = forward.1 in let jlt = forward.0 in
-            elim (cases_eq k j) as (λ _. slice_index after k + slice_index after (k + half) ≡ slice_index now k + slice_index now (k + half)) [
-              | inl e ↦
-                  let kt : k + half ≡ t = omega arith in
-                  let a = ap (slice_index after) e in let b = ap (slice_index now) e in let c = ap (slice_index after) kt in let d = ap (slice_index now) kt in
-                  let here_ = moved.here_ in let there = moved.there in omega arith
-              | inr differs ↦
-                  let a = moved.others k differs (λ q. omega arith) in
-                  let b = moved.others (k + half) (λ q. omega arith) (λ q. differs (omega arith)) in omega arith
-            ]
-        | inr back ↦
-            let jt = back.1 in let tlt = back.0 in
-            elim (cases_eq k t) as (λ _. slice_index after k + slice_index after (k + half) ≡ slice_index now k + slice_index now (k + half)) [
-              | inl e ↦
-                  let kj : k + half ≡ j = omega arith in
-                  let a = ap (slice_index after) e in let b = ap (slice_index now) e in let c = ap (slice_index after) kj in let d = ap (slice_index now) kj in
-                  let here_ = moved.here_ in let there = moved.there in omega arith
-              | inr differs ↦
-                  let a = moved.others k (λ q. omega arith) differs in
-                  let b = moved.others (k + half) (λ q. differs (omega arith)) (λ q. omega arith) in omega arith
-            ]
+        | inl forward ↦ kept_at j t forward.1 (omega arith) moved.others forward.0 k below
+        | inr back ↦ kept_at t j back.1 (omega arith) (λ p a b. moved.others p b a) back.0 k below
       ]
 
   sums_more : (h k : ℕ) → h + h ≡ length old → k < h → slice_index after k + slice_index after (k + h) ≡ slice_index old k + slice_index old (k + h)

@@ -22,7 +22,7 @@ use Rattle.bl_rob.specs.declared.directive.StepError.TheVariants.{NotEnabled}
 use Rattle.bl_rob.specs.declared.entry.Act.TheVariants.{Becomes}
 use Rattle.bl_rob.specs.declared.entry.Entry.{Entry}
 use Rattle.bl_rob.specs.declared.entry.Work.{Work}
-use Rattle.bl_rob.specs.declared.entry.Work.TheVariants.{Nop, Assign, Load, Held, Done, Store, Ready, Guard, Fail}
+use Rattle.bl_rob.specs.declared.entry.Work.TheVariants.{Ready}
 use Rattle.bl_rob.proofs.BufferInvariant.{Holds}
 use Rattle.bl_rob.proofs.PolicyLemmas.{told_enabled, told_steps}
 use Rattle.bl_rob.proofs.ReachabilityLemmas.{KeepAll}
@@ -130,16 +130,9 @@ module _ (program : Program) (from width : ℕ) where
   by_tests at count number found false c e small h = h
 
   one_within : (work : Work) (found : Found) → IsWithin width found → IsWithin width (supplied program from width work found)
-  one_within Nop found h = h
-  one_within (Assign protect op to a b c) found h = h
-  one_within (Load protect kind memory to offset address) found h = h
-  one_within (Held to value) found h = h
-  one_within (Done to value) found h = h
-  one_within (Store kind memory offset address value) found h = h
   one_within (Ready kind memory offset address value) found h =
       by_tests (effective program memory offset address) (width_of kind) (narrowed kind value) found _ _ refl (store_fits kind value) h
-  one_within (Guard cond predicted other chain) found h = h
-  one_within (Fail kind) found h = h
+  one_within _ found h = h
 
   all_within : (entries : List Entry) (found : Found) → IsWithin width found → IsWithin width (found_from program from width entries found)
   all_within [] found h = h

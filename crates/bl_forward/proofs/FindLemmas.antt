@@ -7,7 +7,7 @@ use Rattle.bl_base.proofs.BoolLemmas.{each_true}
 use Rattle.bl_cmd.specs.declared.definitions.ProgramParts.{ProgramParts as Program}
 use Rattle.bl_rob.specs.declared.entry.Entry.{Entry}
 use Rattle.bl_rob.specs.declared.entry.Work.{Work}
-use Rattle.bl_rob.specs.declared.entry.Work.TheVariants.{Nop, Assign, Load, Held, Done, Store, Ready, Guard, Fail}
+use Rattle.bl_rob.specs.declared.entry.Work.TheVariants.{Nop}
 use Rattle.bl_forward.specs.ForwardMachines.{found_from, found_in, meets, supplied, supplies}
 use Rattle.bl_forward.specs.LastStores.{Finds, LastStore, NoneMeets, Waiting, blocked, does_meet, in_memory, stored, waiting}
 use Rattle.bl_forward.specs.declared.find.Found.{Found}
@@ -21,14 +21,7 @@ module _ (program : Program) (from width : ℕ) where
 
   supplied_is : (work : Work) (found : Found) → supplied program from width work found ≡ supply (waiting program work) found
   supplied_is Nop found = refl
-  supplied_is (Assign protect op to a b c) found = refl
-  supplied_is (Load protect kind memory to offset address) found = refl
-  supplied_is (Held to value) found = refl
-  supplied_is (Done to value) found = refl
-  supplied_is (Store kind memory offset address value) found = refl
-  supplied_is (Ready kind memory offset address value) found = refl
-  supplied_is (Guard cond predicted other chain) found = refl
-  supplied_is (Fail kind) found = refl
+  supplied_is _ found = refl
 
   -- in a store that meets the range
   abbrev decided : Waiting → Bool → Found

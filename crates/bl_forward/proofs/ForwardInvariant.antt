@@ -22,7 +22,7 @@ use Rattle.bl_rob.specs.declared.entry.Entry.{Entry}
 use Rattle.bl_rob.specs.declared.entry.Register.{Register}
 use Rattle.bl_rob.specs.declared.entry.Source.{Source}
 use Rattle.bl_rob.specs.declared.entry.Work.{Work}
-use Rattle.bl_rob.specs.declared.entry.Work.TheVariants.{Nop, Assign, Load, Held, Done, Store, Ready, Guard, Fail}
+use Rattle.bl_rob.specs.declared.entry.Work.TheVariants.{Load}
 use Rattle.bl_rob.proofs.BufferInvariant.{Holds, Stays, Kept, split, is_running, acted_ok, stays, step_ok, all_kept, kept_consistent, opening_kept}
 use Rattle.bl_rob.proofs.PlainTracks.{Config, value_in, run_on, IsLoad, stands_there, Tracks, Along, committed, entry_at, source_below, space_behind, value_ok, Says}
 use Rattle.bl_sct.proofs.StepAgreement.{LiesIn, InsideOf, inside_from, plain_of}
@@ -54,16 +54,9 @@ module _ (program : Program) (facts : IsProgram program) (rules : IsWellFormed p
       (subst (λ z. LiesIn program memory (effective program memory z (value_in c.registers a)) (width_of kind)) off
       (subst (λ z. LiesIn program memory (effective program memory o (value_in c.registers a)) (width_of z)) knd
       (subst (λ z. LiesIn program z (effective program z o (value_in c.registers a)) (width_of k)) mem i)))
-  lies_by c protect kind memory to offset address (Straight Nop front) h i = cc
-  lies_by c protect kind memory to offset address (Straight (Assign p op t x y z) front) h i = cc
-  lies_by c protect kind memory to offset address (Straight (Held t v) front) h i = cc
-  lies_by c protect kind memory to offset address (Straight (Done t v) front) h i = cc
-  lies_by c protect kind memory to offset address (Straight (Store k m o a v) front) h i = cc
-  lies_by c protect kind memory to offset address (Straight (Ready k m o a v) front) h i = cc
-  lies_by c protect kind memory to offset address (Straight (Guard a b o k) front) h i = cc
-  lies_by c protect kind memory to offset address (Straight (Fail k) front) h i = cc
   lies_by c protect kind memory to offset address (Branch cond one other) h i = absurd h
   lies_by c protect kind memory to offset address Nowhere h i = absurd h
+  lies_by c protect kind memory to offset address _ h i = cc
 
   module _ (plain : Option (State × Seen)) (s : State) (k : Kept program from s) (n position : ℕ) (protect : Bool) (kind : AccessKind) (memory : ℕ) (to : Register) (offset : ℕ) (source : Source) where
     abbrev executes : Execution → Option (State × Seen)
@@ -148,16 +141,9 @@ module _ (program : Program) (facts : IsProgram program) (rules : IsWellFormed p
 
   work_ok : (most : ℕ) (s : State) (n position : ℕ) (work : Work) → Kept program from s → slice_get s.buffer n ≡ Some (entry_at position work)
       → Holds (Kept program from) (exec_work most program s n position work)
-  work_ok most s n position Nop k at = plain_ok most s (Exec n) k
-  work_ok most s n position (Assign protect op to a b c) k at = plain_ok most s (Exec n) k
   work_ok most s n position (Load protect kind memory to offset address) k at =
       load_ok (plainly (directive_step most program s (Exec n))) s k n position protect kind memory to offset address at
-  work_ok most s n position (Held to value) k at = plain_ok most s (Exec n) k
-  work_ok most s n position (Done to value) k at = plain_ok most s (Exec n) k
-  work_ok most s n position (Store kind memory offset address value) k at = plain_ok most s (Exec n) k
-  work_ok most s n position (Ready kind memory offset address value) k at = plain_ok most s (Exec n) k
-  work_ok most s n position (Guard cond predicted other chain) k at = plain_ok most s (Exec n) k
-  work_ok most s n position (Fail kind) k at = plain_ok most s (Exec n) k
+  work_ok most s n position _ k at = plain_ok most s (Exec n) k
 
   exec_ok : (most : ℕ) (s : State) (n : ℕ) (o : Option Entry) → Kept program from s → slice_get s.buffer n ≡ o → Holds (Kept program from) (exec_at most program s n o)
   exec_ok most s n None k at = tt

@@ -20,7 +20,7 @@ use Rattle.bl_rob.specs.declared.directive.Observation.TheVariants as observed
 use Rattle.bl_rob.specs.declared.entry.Entry.{Entry}
 use Rattle.bl_rob.specs.declared.entry.Register.{Register}
 use Rattle.bl_rob.specs.declared.entry.Work.{Work}
-use Rattle.bl_rob.specs.declared.entry.Work.TheVariants.{Nop, Assign, Load, Held, Done, Store, Ready, Guard, Fail}
+use Rattle.bl_rob.specs.declared.entry.Work.TheVariants.{Load, Ready}
 use Rattle.bl_rob.proofs.BufferInvariant.{Kept, Ran, split}
 use Rattle.bl_rob.proofs.PlainTracks.{Tracks, entry_at}
 use Rattle.bl_rob.proofs.OtherGlobals.{with_globals, step_same}
@@ -64,17 +64,10 @@ supplies_alike false c v w x y h = h
 
 module _ (clear : ℕ → Bool) (program : Program) (from width : ℕ) where
   by_equal : (e : Work) (x y : Found) → FoundAlike x y → FoundAlike (supplied program from width e x) (supplied program from width e y)
-  by_equal Nop x y h = h
-  by_equal (Assign protect op to a b c) x y h = h
-  by_equal (Load protect kind memory to offset address) x y h = h
-  by_equal (Held to value) x y h = h
-  by_equal (Done to value) x y h = h
-  by_equal (Store kind memory offset address value) x y h = h
   by_equal (Ready kind memory offset address value) x y h =
       supplies_alike (meets (effective program memory offset address) (width_of kind) from width)
       (nat_eq (effective program memory offset address) from && nat_eq (width_of kind) width) (narrowed kind value) (narrowed kind value) x y h
-  by_equal (Guard cond predicted other chain) x y h = h
-  by_equal (Fail kind) x y h = h
+  by_equal _ x y h = h
 
   by_same : (e f : Work) (x y : Found) → Same clear e f → FoundAlike x y → FoundAlike (supplied program from width e x) (supplied program from width f y)
   by_same e f x y (equal w) h = by_equal w x y h
@@ -91,9 +84,7 @@ module _ (clear : ℕ → Bool) (program : Program) (from width : ℕ) where
 
 same_pending : (clear : ℕ → Bool) (e f : Work) → Same clear e f → is_pending e ≡ is_pending f
 same_pending clear e f (equal w) = refl
-same_pending clear e f (held to v w) = refl
-same_pending clear e f (done to v w k) = refl
-same_pending clear e f (ready kind memory offset address v w) = refl
+same_pending clear e f _ = refl
 
 pending_alike : (clear : ℕ → Bool) (es fs : List Entry) → SameAll clear es fs → has_pending es ≡ has_pending fs
 pending_alike clear es fs none = refl
@@ -190,25 +181,16 @@ module _ (program : Program) (facts : IsProgram program) (rules : IsWellFormed p
 
     equal_twins : (n at : ℕ) (e : Work) → Keeps fit e → slice_get s.buffer n ≡ Some (entry_at at e)
         → Twin (Rel fit) (exec_work most program s n at e) (exec_work most program t n at e)
-    equal_twins n at Nop k x = plain_twins (Exec n)
-    equal_twins n at (Assign protect op to a b c) k x = plain_twins (Exec n)
     equal_twins n at (Load protect kind memory to offset address) k x =
         load_executes fit program (plainly (directive_step most program s (Exec n))) (plainly (directive_step most program t (Exec n))) s t r n at protect kind memory to offset k.1 _ _
         (clear_source fit s.registers t.registers (take n s.buffer) (take n t.buffer) address k.0 (same_take fit n s.buffer t.buffer r.entries)
         (agree_with n at (Load protect kind memory to offset address) x))
-    equal_twins n at (Held to value) k x = plain_twins (Exec n)
-    equal_twins n at (Done to value) k x = plain_twins (Exec n)
-    equal_twins n at (Store kind memory offset address value) k x = plain_twins (Exec n)
-    equal_twins n at (Ready kind memory offset address value) k x = plain_twins (Exec n)
-    equal_twins n at (Guard cond predicted other chain) k x = plain_twins (Exec n)
-    equal_twins n at (Fail kind) k x = plain_twins (Exec n)
+    equal_twins n at _ k x = plain_twins (Exec n)
 
     work_twins : (n at : ℕ) (e f : Work) → Same fit e f → Keeps fit e → slice_get s.buffer n ≡ Some (entry_at at e)
         → Twin (Rel fit) (exec_work most program s n at e) (exec_work most program t n at f)
     work_twins n at e f (equal w) k x = equal_twins n at w k x
-    work_twins n at e f (held to v w) k x = plain_twins (Exec n)
-    work_twins n at e f (done to v w q) k x = plain_twins (Exec n)
-    work_twins n at e f (ready kind memory offset address v w) k x = plain_twins (Exec n)
+    work_twins n at e f _ k x = plain_twins (Exec n)
 
     exec_twins : (n : ℕ) (o p : Option Entry) → SameGet fit o p → slice_get s.buffer n ≡ o
         → Twin (Rel fit) (exec_at most program s n o) (exec_at most program t n p)
@@ -245,14 +227,7 @@ module _ (program : Program) (globals : List GlobalDef) (same : length globals �
 
   execution_same : (s : State) (entries : List Entry) (e : Work) → execution_of other s entries e ≡ execution_of program s entries e
   execution_same s entries (Load protect kind memory to offset address) = from_same s entries protect kind memory to offset (visible_of s.registers entries address)
-  execution_same s entries Nop = refl
-  execution_same s entries (Assign protect op to a b c) = refl
-  execution_same s entries (Held to value) = refl
-  execution_same s entries (Done to value) = refl
-  execution_same s entries (Store kind memory offset address value) = refl
-  execution_same s entries (Ready kind memory offset address value) = refl
-  execution_same s entries (Guard cond predicted branch chain) = refl
-  execution_same s entries (Fail kind) = refl
+  execution_same s entries _ = refl
 
   work_same : (most : ℕ) (s : State) (n position : ℕ) (e : Work) → exec_work most other s n position e ≡ exec_work most program s n position e
   work_same most s n position e i = stepped (plain_same most s (Exec n) i) s n position (execution_same s (take n s.buffer) e i)

@@ -14,7 +14,7 @@ use Rattle.bl_cmd.proofs.ByteAgreement.{parts, overlay_other}
 use Rattle.bl_bytes.proofs.OverlayLemmas.{overlay_length, overlay_next}
 use Rattle.bl_rob.specs.declared.entry.Entry.{Entry}
 use Rattle.bl_rob.specs.declared.entry.Work.{Work}
-use Rattle.bl_rob.specs.declared.entry.Work.TheVariants.{Nop, Assign, Load, Held, Done, Store, Ready, Guard, Fail}
+use Rattle.bl_rob.specs.declared.entry.Work.TheVariants.{Ready}
 use Rattle.bl_rob.proofs.PlainTracks.{over, space_behind}
 use Rattle.bl_forward.specs.declared.find.Found.{Found}
 use Rattle.bl_forward.specs.declared.find.Found.TheVariants.{Memory, Stored, Blocked}
@@ -91,12 +91,6 @@ module _ (from width : ℕ) (first : List ℕ) where
 
   one : (Q : Program) (work : Work) (m : List ℕ) (found : Found) → from + width ≤ length m → Right from width first m found
       → (Right from width first (over Q work m) (supplied Q from width work found)) × (length (over Q work m) ≡ length m)
-  one Q Nop m found le h = (h, refl)
-  one Q (Assign protect op to a b c) m found le h = (h, refl)
-  one Q (Load protect kind memory to offset address) m found le h = (h, refl)
-  one Q (Held to value) m found le h = (h, refl)
-  one Q (Done to value) m found le h = (h, refl)
-  one Q (Store kind memory offset address value) m found le h = (h, refl)
   one Q (Ready kind memory offset address value) m found le h =
       let number = narrowed kind value in
       let at = effective Q memory offset address in
@@ -110,8 +104,7 @@ module _ (from width : ℕ) (first : List ℕ) where
     where
       small : (kind : AccessKind) (value : ℕ) → narrowed kind value < 256 ^ width_of kind
       small kind value = let h = store_fits kind value in search (arith, h)
-  one Q (Guard cond predicted other chain) m found le h = (h, refl)
-  one Q (Fail kind) m found le h = (h, refl)
+  one Q _ m found le h = (h, refl)
 
   pub all : (Q : Program) (es : List Entry) (m : List ℕ) (found : Found) → from + width ≤ length m → Right from width first m found
       → Right from width first (space_behind Q es m) (found_from Q from width es found)

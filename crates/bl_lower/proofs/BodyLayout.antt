@@ -18,7 +18,7 @@ use Rattle.bl_reduce.proofs.Places.{behind_item}
 use Rattle.bl_access.specs.Templates.{chain, variable, jump_to, shift, set as set_command}
 use Rattle.bl_cmd.specs.declared.command.Command.{Command}
 use Rattle.bl_cmd.specs.declared.command.Operand.{Operand}
-use Rattle.bl_lower.proofs.CodeLayout.{HasAt, Fresh, if_target, then_point, else_point, live, dead, second_of, operands_of, IsLaidOut, EndsAt, OutsAt, ToAt, TestsAt, SecondAt, SlotsFrom, SlotAt, flat, code_of, tests, yes_of, slot_tests}
+use Rattle.bl_lower.proofs.CodeLayout.{HasAt, Fresh, if_target, then_point, else_point, live, dead, second_of, operands_of, IsLaidOut, EndsAt, OutsAt, ToAt, TestsAt, SecondAt, SlotsFrom, SlotAt, behind_first, flat, code_of, tests, yes_of, slot_tests}
 use Rattle.bl_lower.proofs.Machine.{Program}
 use Rattle.bl_emit.specs.Constructs.{pad, reads, moves, outs, top, whole, again, Target, as_whole, taken, first_to, mark_of, Point, point, behind, inside, branched}
 use Rattle.bl_emit.specs.Items.{arms_from, checks, check_of, check_size, check_new, left, right, after, arm_size, branch_size, branch_most, branch_mosts, size_of, most_of, left_next, left_most, to_label, arms, slot_head, slot_arm, slot_arms, template, leaving}
@@ -26,7 +26,7 @@ use Rattle.bl_emit.specs.LoweredBodies.{Body, done, step, leave, block, loop, ch
 use Rattle.bl_emit.specs.Shapes.{Slot, armed, uninitialized, mistyped, Counts, Shape}
 use Rattle.bl_lower.proofs.ConstructExits.{moves_length, reads_count}
 use Rattle.bl_lower.proofs.Sizes.{Low, Size, Sized, ReachedAs, sizes, left_next_is, part_length, padded_length, checks_length, label_length, template_length, after_position, after_next, calls, slot_arm_length, slot_head_length}
-use Rattle.bl_lower.proofs.Typings.{IsOrdinary, IsLeave, IsBody, arrow_lengths, leaves_enough, at_end, at_else, neither, opens, stays}
+use Rattle.bl_lower.proofs.Typings.{IsOrdinary, IsLeave, IsFor, IsSecondPart, IsBody, arrow_lengths, leaves_enough, at_end, at_else, neither, opens, stays}
 use Rattle.bl_lower.proofs.OperandOrder.{OperandsOrdered, ordered_later, ordered_tail, ordered_new, ordered_reads, ordered_taken, ordered_looped, new_fresh, avoids_fresh, branch_fresh}
 use Rattle.bl_emit.proofs.Lists.{shift_is}
 use Rattle.bl_lower.proofs.IndexTests.{chain_length, arms_from_length, tests_are, slot_tests_are}
@@ -474,6 +474,11 @@ module _ (program : Program) (bound number : ℕ) where
       else_at t (on q) open_ones position e to is ended exact most h k laid = (ends_at t q open_ones position e to is ended exact most h, laid)
       else_at t (off next) open_ones position e to is ended exact most h k laid = laid
 
+      -- an empty second part ends where it begins
+      ends_empty : (second : Body) (open_ones : List Target) (q : Point) → IsFor second → (Low blocks shapes number open_ones second q).reached ≡ on q
+      ends_empty done open_ones q is = refl
+      ends_empty second open_ones q is = absurd is
+
       -- the commands of an if: where its parts stand, and what follows it
       record Parts (mark : ℕ) (p : Point) (t : Target) (e f : Extent) (within others rest : Lowered) : Type 0 where
         first : At (suc p.position) within.commands
@@ -624,14 +629,16 @@ module _ (program : Program) (bound number : ℕ) where
                 (behind_length t (length lower) one.type.results (next_in w.reached) counts.1 left_over ∙ sym (length-append one.lower (one.type.results))) (omega (arith, room, s.new)) (omega (arith, most))
                 (subst (λ x. At x rest) rest_there rest_at) x.typing then)),
           )
-      lays (choice r first true second body) open_ones ones p k from later are opens_are operands_ordered long room most h typing then =
-          let b = behind_item c (If r) (flat first (Else ∷ flat second (End ∷ flat body k))) ones from later typing in
+      lays (choice r first has_second second body) open_ones ones p k from later are opens_are operands_ordered long room most h typing then =
+          let ahead = behind_first has_second (flat second) (flat body k) in
+          let b = behind_item c (If r) (flat first ahead) ones from later typing in
           let type = b.rule.type in
           let lower = b.rule.lower in
           let counts = blocks_are r type b.rule.named in
           let n = (blocks r).params in
           let m = (blocks r).results in
           let one = opened then_part type lower in
+          let another = opened else_part type lower in
           let e = size_in blocks shapes number (m ∷ takes_of open_ones) first in
           let f = size_in blocks shapes number (m ∷ takes_of open_ones) second in
           let stack = drop 1 p.stack in
@@ -650,74 +657,34 @@ module _ (program : Program) (bound number : ℕ) where
           let left_over : length (drop n stack) ≡ length lower = omega (arith, length-drop n stack, lost, counts.0) in
           let inside_long : length q.stack ≡ length type.params = length-take-le n stack enough ∙ counts.0 in
           let above = ordered_tail open_ones 1 p.stack p.next operands_ordered in
-          let under = ordered_tail open_ones n stack p.next above in (
-            t.end,
-            q'.position,
-            (h.0.0, tt),
-            enough,
-            omega (arith, room),
-            lays first (t ∷ open_ones) (one ∷ ones) q (Else ∷ flat second (End ∷ flat body k)) type.params b.later are.0 (record { taken_is = counts.1; leaves = counts.1 }, opens_are)
-                (ordered_taken t open_ones n stack p.next q.next (omega arith) (omega arith) refl above) inside_long (omega (arith, room)) (omega (arith, most)) cs.first
-                (opens c one type.params (If r) ones (flat first (Else ∷ flat second (End ∷ flat body k))) from b b.rule.inside b.rule.behind) (λ to later typing ended.
-                let o = at_else c one ones (flat second (End ∷ flat body k)) to later typing in
-                let another = opened else_part type lower in
-                else_at t w.reached open_ones (suc p.position) e to s.reached ended (ap length o.full ∙ sym counts.1) (omega (arith, most)) cs.first_end (flat second (End ∷ flat body k))
-                (lays second (as_whole t ∷ open_ones) (another ∷ ones) q' (End ∷ flat body k) type.params o.later are.1 (record { taken_is = counts.1; leaves = counts.1 }, opens_are)
-                (ordered_taken (as_whole t) open_ones n stack p.next q'.next (omega arith) (omega (arith, s.new)) refl above) inside_long (omega (arith, room, s.new)) (omega (arith, most)) cs.second o.typing (λ to later typing ended.
-                let x = at_end c another ones (flat body k) to later typing in
-                end_at (as_whole t) v.reached open_ones q'.position f to s'.reached ended (ap length x.full ∙ sym counts.1) (omega (arith, most)) cs.second_end (flat body k) tt
-                (lays body open_ones ones (behind t (next_in v.reached)) k (another.lower ++ another.type.results) x.later are.2 opens_are (ordered_behind t open_ones (next_in v.reached) (omega (arith, s.new, s'.new)) under)
-                (behind_length t (length lower) another.type.results (next_in v.reached) counts.1 left_over ∙ sym (length-append another.lower (another.type.results))) (omega (arith, room, s.new, s'.new)) (omega (arith, most))
-                cs.later x.typing then)))),
-          )
-      lays (choice r first false done body) open_ones ones p k from later are opens_are operands_ordered long room most h typing then =
-          let b = behind_item c (If r) (flat first (End ∷ flat body k)) ones from later typing in
-          let type = b.rule.type in
-          let lower = b.rule.lower in
-          let counts = blocks_are r type b.rule.named in
-          let n = (blocks r).params in
-          let m = (blocks r).results in
-          let one = opened then_part type lower in
-          let e = size_in blocks shapes number (m ∷ takes_of open_ones) first in
-          let f = size_in blocks shapes number (m ∷ takes_of open_ones) done in
-          let stack = drop 1 p.stack in
-          let t = if_target blocks shapes number open_ones r p first done in
-          let q = then_point blocks shapes number open_ones r p in
-          let w = Low blocks shapes number (t ∷ open_ones) first q in
-          let s = sizes blocks shapes number (t ∷ open_ones) first q in
-          let q' = else_point blocks shapes number open_ones r p first w.reached in
-          let v = Low blocks shapes number (as_whole t ∷ open_ones) done q' in
-          let s' = sizes blocks shapes number (as_whole t ∷ open_ones) done q' in
-          let rest = Low blocks shapes number open_ones body (behind t (next_in v.reached)) in
-          let mark = mark_of open_ones in
-          let cs = parts mark q.stack p q t e f w v rest s s' h.1 in
-          let lost : length stack ≡ length lower + length type.params = omega (arith, length-drop 1 p.stack, long, ap length b.rule.before, length-append lower (type.params ++ I32 ∷ []), length-append type.params (I32 ∷ [])) in
-          let enough : n ≤ length stack = omega (arith, lost, counts.0) in
-          let left_over : length (drop n stack) ≡ length lower = omega (arith, length-drop n stack, lost, counts.0) in
-          let inside_long : length q.stack ≡ length type.params = length-take-le n stack enough ∙ counts.0 in
-          let above = ordered_tail open_ones 1 p.stack p.next operands_ordered in
           let under = ordered_tail open_ones n stack p.next above in
-          let inner_neat = ordered_taken (as_whole t) open_ones n stack p.next q.next (omega arith) (omega arith) refl above in
-          let none : q'.position + 0 ≡ q'.position = omega arith in (
+          let inner_ordered = ordered_taken (as_whole t) open_ones n stack p.next q'.next (omega arith) (omega (arith, s.new)) refl above in
+          let goes_on : (later : List (List WasmType)) → Types c ones (flat body k) ((lower ++ type.results) ∷ later) → LaidLive open_ones (behind t (next_in v.reached)) (flat body k) = λ later typing.
+          lays body open_ones ones (behind t (next_in v.reached)) k (lower ++ type.results) later are.2 opens_are (ordered_behind t open_ones (next_in v.reached) (omega (arith, s.new, s'.new)) under)
+          (behind_length t (length lower) type.results (next_in v.reached) counts.1 left_over ∙ sym (length-append lower type.results)) (omega (arith, room, s.new, s'.new)) (omega (arith, most)) cs.later typing then in (
             t.end,
             q'.position,
             (h.0.0, tt),
             enough,
             omega (arith, room),
-            lays first (t ∷ open_ones) (one ∷ ones) q (End ∷ flat body k) type.params b.later are.0 (record { taken_is = counts.1; leaves = counts.1 }, opens_are)
+            lays first (t ∷ open_ones) (one ∷ ones) q ahead type.params b.later are.0 (record { taken_is = counts.1; leaves = counts.1 }, opens_are)
                 (ordered_taken t open_ones n stack p.next q.next (omega arith) (omega arith) refl above) inside_long (omega (arith, room)) (omega (arith, most)) cs.first
-                (opens c one type.params (If r) ones (flat first (End ∷ flat body k)) from b b.rule.inside b.rule.behind) (λ to later typing ended.
-                let x = at_end c one ones (flat body k) to later typing in
-                let bare : length type.params ≡ length type.results = ap length (x.bare refl) in
-                end_at t w.reached open_ones (suc p.position) e to s.reached ended (ap length x.full ∙ sym counts.1) (omega (arith, most)) cs.first_end (flat body k)
-                (record {
-                  commands = has q'.position (closed mark (as_whole t) (on q')) (subst (λ n. At n (closed mark (as_whole t) (on q'))) none cs.second_end);
-                  exact = inside_long ∙ bare ∙ sym counts.1;
-                  fresh = avoids_fresh (as_whole t) q.stack inner_neat.clear.0;
-                  most = omega (arith, most);
-                })
-                (lays body open_ones ones (behind t (next_in w.reached)) k (one.lower ++ one.type.results) x.later are.2 opens_are (ordered_behind t open_ones (next_in w.reached) (omega (arith, s.new)) under)
-                (behind_length t (length lower) one.type.results (next_in w.reached) counts.1 left_over ∙ sym (length-append one.lower (one.type.results))) (omega (arith, room, s.new)) (omega (arith, most))
-                cs.later x.typing then)),
+                (opens c one type.params (If r) ones (flat first ahead) from b b.rule.inside b.rule.behind) (λ to later typing ended.
+                elim has_second as (λ has_second. IsSecondPart has_second second (IsBody second) → Types c (one ∷ ones) (behind_first has_second (flat second) (flat body k)) (to ∷ later)
+                → IsLaidOut program bound number (t ∷ open_ones) (code_of w.reached) (behind_first has_second (flat second) (flat body k))) [
+                  | true ↦ λ is typing.
+                      let o = at_else c one ones (flat second (End ∷ flat body k)) to later typing in
+                      else_at t w.reached open_ones (suc p.position) e to s.reached ended (ap length o.full ∙ sym counts.1) (omega (arith, most)) cs.first_end (flat second (End ∷ flat body k))
+                      (lays second (as_whole t ∷ open_ones) (another ∷ ones) q' (End ∷ flat body k) type.params o.later is (record { taken_is = counts.1; leaves = counts.1 }, opens_are)
+                      inner_ordered inside_long (omega (arith, room, s.new)) (omega (arith, most)) cs.second o.typing (λ to later typing ended.
+                      let x = at_end c another ones (flat body k) to later typing in
+                      end_at (as_whole t) v.reached open_ones q'.position f to s'.reached ended (ap length x.full ∙ sym counts.1) (omega (arith, most)) cs.second_end (flat body k) tt (goes_on x.later x.typing)))
+                  | false ↦ λ is typing.
+                      let x = at_end c one ones (flat body k) to later typing in
+                      let empty = ends_empty second (as_whole t ∷ open_ones) q' is in
+                      end_at t w.reached open_ones (suc p.position) e to s.reached ended (ap length x.full ∙ sym counts.1) (omega (arith, most)) cs.first_end (flat body k)
+                      (ends_at (as_whole t) q' open_ones q'.position f type.params (subst (ReachedAs blocks shapes number f q'.position) empty s'.reached) (inside_long, inner_ordered) (ap length (x.bare refl) ∙ sym counts.1)
+                      (omega (arith, most)) (subst (λ reached. At (q'.position + f.size) (closed mark (as_whole t) reached)) empty cs.second_end))
+                      (subst (λ reached. LaidLive open_ones (behind t (next_in reached)) (flat body k)) empty (goes_on x.later x.typing))
+                ] are.1 typing),
           )
-      lays (choice r first false second body) open_ones ones p k from later are opens_are operands_ordered long room most h typing then = absurd are.1

@@ -116,7 +116,7 @@ module _ (program : Program) (bound number : ℕ) where
   empty t is open_ones next rest le h laid = record { limit = le; next = next; later = omega arith; laid = (filled t.kind is h, tt, laid) }
     where
       filled : (kind : Kind) → IsPart kind → SecondAt program bound number kind (mark_of open_ones) t → EndsAt program bound number (mark_of open_ones) (as_whole t) (second_of kind) (operands_of kind)
-      filled (part other others) is h = record { commands = h.commands; exact = h.exact; fresh = h.fresh; most = h.most }
+      filled (part other others) is h = h
       filled kind is h = absurd is
 
   walks : (second : Bool) (t : Target) → HasThat second t → (open_ones inner : List Target) (code : Code) (rest : List Instr) → next_of code ≤ (program.shape number).limit → LaidHere (inner ++ t ∷ open_ones) code rest

@@ -19,12 +19,12 @@ use Rattle.bl_rob.specs.declared.directive.Directive.{Directive}
 use Rattle.bl_rob.specs.declared.directive.Directive.TheVariants.{Fetch, Predict, Exec, Retire}
 use Rattle.bl_rob.specs.declared.directive.End.{End}
 use Rattle.bl_rob.specs.declared.directive.End.TheVariants as ending
-use Rattle.bl_rob.specs.declared.directive.Observation.{Observation}
 use Rattle.bl_rob.specs.declared.entry.Act.{Act}
 use Rattle.bl_rob.specs.declared.entry.Act.TheVariants.{Idle, Becomes, RollsBack}
 use Rattle.bl_rob.specs.declared.entry.Entry.{Entry}
+use Rattle.bl_rob.specs.declared.entry.Source.{Source}
 use Rattle.bl_rob.specs.declared.entry.Work.{Work}
-use Rattle.bl_rob.specs.declared.entry.Work.TheVariants.{Nop, Assign, Load, Held, Done, Store, Ready, Guard, Fail}
+use Rattle.bl_rob.specs.declared.entry.Work.TheVariants.{Nop, Done, Ready, Guard, Fail}
 use Rattle.bl_rob.specs.declared.front.Front.{Front}
 use Rattle.bl_rob.proofs.PlainTracks.{Config, value_in, registers_after, space_after, next_at, next, IsThere, Cases, Path, Stands, stands_there, stands_straight, Tracks, committed, Below, all_quiet, Along, go_along, entry_at, GoesBack, Acts, act_ok}
 use Rattle.bl_rob.proofs.FetchedRuns.{config_of, state_of, Follows, follows}
@@ -57,13 +57,6 @@ module _ (Q : Program) (c : Config) (s : State) (i : Inv Q c s) where
       → ((d : Config) → Along Q pre (committed s.registers) c d → Tracks Q (entry_at p work ∷ post) d s.front
       → GoesBack Q d work)
       → Stays Q c s.retired (rolled_back n p work s)
-  rolled_back_ok n p pre post Nop e t k = (refl, i)
-  rolled_back_ok n p pre post (Assign protect op to a b z) e t k = (refl, i)
-  rolled_back_ok n p pre post (Load protect kind memory to offset address) e t k = (refl, i)
-  rolled_back_ok n p pre post (Held to value) e t k = (refl, i)
-  rolled_back_ok n p pre post (Done to value) e t k = (refl, i)
-  rolled_back_ok n p pre post (Store kind memory offset address value) e t k = (refl, i)
-  rolled_back_ok n p pre post (Ready kind memory offset address value) e t k = (refl, i)
   rolled_back_ok n p pre post (Guard cond predicted other chain) e t k = (
     refl,
     record {
@@ -74,7 +67,7 @@ module _ (Q : Program) (c : Config) (s : State) (i : Inv Q c s) where
           (below_registers s.registers c i.registers) t (λ d a v. k d a v p));
     },
   )
-  rolled_back_ok n p pre post (Fail kind) e t k = (refl, i)
+  rolled_back_ok n p pre post _ e t k = (refl, i)
 
   pub acted_ok : (n : ℕ) (pre post : List Entry) (e : Entry) (a : Act) → pre ≡ take n s.buffer → post ≡ drop (suc n) s.buffer
       → Tracks Q (pre ++ e ∷ post) c s.front
@@ -116,15 +109,9 @@ module _ (Q : Program) (c : Config) (s : State) (i : Inv Q c s) where
 
 -- what is appended by Fetch: a fail has ended the front end, and a guard isn't
 abbrev pub IsFresh : Work → Front → Type 0
-IsFresh Nop f = Unit {0}
-IsFresh (Assign protect op to a b c) f = Unit {0}
-IsFresh (Load protect kind memory to offset address) f = Unit {0}
-IsFresh (Held to value) f = Unit {0}
-IsFresh (Done to value) f = Unit {0}
-IsFresh (Store kind memory offset address value) f = Unit {0}
-IsFresh (Ready kind memory offset address value) f = Unit {0}
 IsFresh (Guard cond predicted other chain) f = ⊥
 IsFresh (Fail kind) f = f.end ≡ Some (ending.Trapped kind)
+IsFresh _ f = Unit {0}
 
 abbrev pub IsFetched : Fetched → Type 0
 IsFetched (Straight work f) = IsFresh work f
@@ -146,15 +133,9 @@ fresh_from Q front None = fresh_of Q front.position front.chain (command_at Q fr
 fresh_from Q front (Some end) = tt
 
 path_fresh : (work : Work) (f : Front) → IsFresh work f → (c d : Config) (A : Type 0) → f ≡ d.front → A → Path work c d A
-path_fresh Nop f h c d A q a = a
-path_fresh (Assign protect op to x y z) f h c d A q a = a
-path_fresh (Load protect kind memory to offset address) f h c d A q a = a
-path_fresh (Held to value) f h c d A q a = a
-path_fresh (Done to value) f h c d A q a = a
-path_fresh (Store kind memory offset address value) f h c d A q a = a
-path_fresh (Ready kind memory offset address value) f h c d A q a = a
 path_fresh (Guard cond predicted other chain) f h c d A q a = absurd h
 path_fresh (Fail kind) f h c d A q a = (sym (ap (λ g. g.end) q) ∙ h, a)
+path_fresh _ f h c d A q a = a
 
 module _ (Q : Program) (c : Config) where
   fetch_ok : (room : Bool) (s : State) (x : Fetched) → before Q s.front ≡ x → IsFetched x → Inv Q c s → Holds (Stays Q c s.retired) (fetch room s x)
@@ -180,31 +161,24 @@ module _ (Q : Program) (c : Config) where
   branches_not true l r f h = sym h
   branches_not false l r f h = h
 
+  -- where it is guessed that a branch goes to a position and not to another one
+  guessed_ok : (predicted : Bool) (cond : Source) (one other to back : ℕ) (s : State) → before Q s.front ≡ Branch cond one other → Inv Q c s
+      → ((t : Bool) (f : Front) → (if t then at_position one s.front.chain else at_position other s.front.chain) ≡ f → Cases (agree predicted t) (at_position to s.front.chain ≡ f) (f ≡ at_position back s.front.chain))
+      → Inv Q c (grown s (Guard cond predicted back s.front.chain) (at_position to s.front.chain))
+  guessed_ok predicted cond one other to back s h i cases =
+      grown_ok Q c s i (Guard cond predicted back s.front.chain) (at_position to s.front.chain) (λ d q.
+      let p : before Q d.front ≡ Branch cond one other = sym (ap (λ y. before Q y) q) ∙ h in
+      let goes : (if truth (value_in d.registers cond) then at_position one s.front.chain else at_position other s.front.chain) ≡ (next Q d).front =
+      ap (λ g. if truth (value_in d.registers cond) then at_position one g.chain else at_position other g.chain) q ∙ ap (λ y. (next_at Q d y).front) (sym p) in (
+        subst IsThere (sym p) tt,
+        ap (λ y. (next_at Q d y).registers) (sym p),
+        ap (λ y. (next_at Q d y).space) (sym p),
+        cases (truth (value_in d.registers cond)) _ goes,
+      ))
+
   predict_ok : (room predicted : Bool) (s : State) (x : Fetched) → before Q s.front ≡ x → Inv Q c s → Holds (Stays Q c s.retired) (predict room predicted s x)
-  predict_ok true true s (Branch cond one other) h i = (
-    refl,
-    grown_ok Q c s i (Guard cond true other s.front.chain) (at_position one s.front.chain) (λ d q.
-        let p : before Q d.front ≡ Branch cond one other = sym (ap (λ y. before Q y) q) ∙ h in
-        let to : (if truth (value_in d.registers cond) then at_position one s.front.chain else at_position other s.front.chain) ≡ (next Q d).front =
-        ap (λ g. if truth (value_in d.registers cond) then at_position one g.chain else at_position other g.chain) q ∙ ap (λ y. (next_at Q d y).front) (sym p) in (
-          subst IsThere (sym p) tt,
-          ap (λ y. (next_at Q d y).registers) (sym p),
-          ap (λ y. (next_at Q d y).space) (sym p),
-          branches (truth (value_in d.registers cond)) _ _ _ to,
-        )),
-  )
-  predict_ok true false s (Branch cond one other) h i = (
-    refl,
-    grown_ok Q c s i (Guard cond false one s.front.chain) (at_position other s.front.chain) (λ d q.
-        let p : before Q d.front ≡ Branch cond one other = sym (ap (λ y. before Q y) q) ∙ h in
-        let to : (if truth (value_in d.registers cond) then at_position one s.front.chain else at_position other s.front.chain) ≡ (next Q d).front =
-        ap (λ g. if truth (value_in d.registers cond) then at_position one g.chain else at_position other g.chain) q ∙ ap (λ y. (next_at Q d y).front) (sym p) in (
-          subst IsThere (sym p) tt,
-          ap (λ y. (next_at Q d y).registers) (sym p),
-          ap (λ y. (next_at Q d y).space) (sym p),
-          branches_not (truth (value_in d.registers cond)) _ _ _ to,
-        )),
-  )
+  predict_ok true true s (Branch cond one other) h i = (refl, guessed_ok true cond one other one other s h i (λ t. branches t _ _))
+  predict_ok true false s (Branch cond one other) h i = (refl, guessed_ok false cond one other other one s h i (λ t. branches_not t _ _))
   predict_ok true predicted s (Straight work f) h i = tt
   predict_ok true predicted s Nowhere h i = tt
   predict_ok false predicted s x h i = tt
@@ -240,18 +214,14 @@ module _ (Q : Program) (c : Config) (s : State) (r : s.registers ≡ c.registers
 
   retire_ok : (es : List Entry) (work : Work) → Tracks Q (entry_at 0 work ∷ es) c s.front → Holds (Moves Q c s.retired) (retire_work Q s es work)
   retire_ok es Nop t = (refl, t.0, record { registers = r ∙ t.1; space = m ∙ t.2; tracks = t.3 })
-  retire_ok es (Assign protect op to a b z) t = tt
-  retire_ok es (Load protect kind memory to offset address) t = tt
-  retire_ok es (Held to value) t = tt
   retire_ok es (Done to value) t = (refl, t.0, record { registers = same_registers (Done to value) ∙ t.1; space = m ∙ t.2; tracks = t.3 })
-  retire_ok es (Store kind memory offset address value) t = tt
   retire_ok es (Ready kind memory offset address value) t =
       (refl, t.0, record { registers = r ∙ t.1; space = same_space (Ready kind memory offset address value) ∙ t.2; tracks = t.3 })
-  retire_ok es (Guard cond predicted other chain) t = tt
   retire_ok es (Fail kind) t =
       let is = after_fail Q kind es (next Q c) s.front t.3.0 t.3.1 in
       let end : s.front.end ≡ Some (ending.Trapped kind) = ap (λ (f : Front). f.end) is ∙ t.3.0 in
       (refl, t.0, record { registers = r ∙ t.1; space = m ∙ t.2; tracks = failed_at s.front (ending.Trapped kind) end ∙ is })
+  retire_ok es _ t = tt
 
   retire_all : (b : List Entry) → Tracks Q b c s.front → Holds (Moves Q c s.retired) (retire Q s b)
   retire_all [] t = tt

@@ -17,7 +17,7 @@ use Rattle.bl_rob.specs.declared.entry.Act.TheVariants.{Idle, Becomes, RollsBack
 use Rattle.bl_rob.specs.declared.entry.Entry.{Entry}
 use Rattle.bl_rob.specs.declared.entry.Source.{Source}
 use Rattle.bl_rob.specs.declared.entry.Work.{Work}
-use Rattle.bl_rob.specs.declared.entry.Work.TheVariants.{Nop, Assign, Load, Held, Done, Store, Ready, Guard, Fail}
+use Rattle.bl_rob.specs.declared.entry.Work.TheVariants.{Nop, Done, Ready, Guard, Fail}
 use Rattle.bl_rob.proofs.BufferInvariant.{Holds}
 
 module _ (most : ℕ) where
@@ -62,16 +62,9 @@ module _ (most : ℕ) where
   cut_off (x ∷ entries) (suc n) entry lt = let le = cut_off entries n entry (omega arith) in omega arith
 
   rolled_back_fits : (s : State) (n position : ℕ) (work : Work) → n < length s.buffer → Fits s → Fits (rolled_back n position work s)
-  rolled_back_fits s n position Nop lt fits = fits
-  rolled_back_fits s n position (Assign protect op to a b c) lt fits = fits
-  rolled_back_fits s n position (Load protect kind memory to offset address) lt fits = fits
-  rolled_back_fits s n position (Held to value) lt fits = fits
-  rolled_back_fits s n position (Done to value) lt fits = fits
-  rolled_back_fits s n position (Store kind memory offset address value) lt fits = fits
-  rolled_back_fits s n position (Ready kind memory offset address value) lt fits = fits
   rolled_back_fits s n position (Guard cond predicted other chain) lt fits =
       let le = cut_off s.buffer n (record { position = position; work = Nop }) lt in omega arith
-  rolled_back_fits s n position (Fail kind) lt fits = fits
+  rolled_back_fits s n position _ lt fits = fits
 
   pub acted_fits : (s : State) (n : ℕ) (entry : Entry) (a : Act) → n < length s.buffer → Fits s → Holds Fits (acted n s entry a)
   acted_fits s n entry Idle lt fits = tt
@@ -93,14 +86,10 @@ module _ (most : ℕ) where
 
       by : (work : Work) → Holds Fits (retire_work program s entries work)
       by Nop = less
-      by (Assign protect op to a b c) = tt
-      by (Load protect kind memory to offset address) = tt
-      by (Held to value) = tt
       by (Done to value) = less
-      by (Store kind memory offset address value) = tt
       by (Ready kind memory offset address value) = less
-      by (Guard cond predicted other chain) = tt
       by (Fail kind) = omega arith
+      by _ = tt
 
   pub step_fits : (program : Program) (s : State) (d : Directive) → Fits s → Holds Fits (directive_step most program s d)
   step_fits program s Fetch fits = fetch_fits s (has_room most s) refl (before program s.front)

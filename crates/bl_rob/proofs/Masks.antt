@@ -1,5 +1,5 @@
 -- The guards of the entries from a place on, as a number.
-use Rattle.std.proofs.Common.{◌≡◌, ℕ, suc, ◌+◌, ◌-◌, ◌*◌, ◌^◌, ◌<◌, ◌≤◌, Bool, true, false, List, [], ◌∷◌, length, drop, get_or, refl, sym, ap, ◌∙◌, subst, arith}
+use Rattle.std.proofs.Common.{◌≡◌, ℕ, suc, ◌+◌, ◌-◌, ◌*◌, ◌^◌, ◌<◌, ◌≤◌, Bool, true, false, List, ◌∷◌, length, drop, get_or, refl, sym, ap, ◌∙◌, arith}
 use Rattle.std.specs.Int.{from_bool}
 use Rattle.std.specs.Prelude.{if◌then◌else◌}
 use Rattle.std.proofs.Math.Nat.{pow-succ'}
@@ -11,15 +11,6 @@ pub record IsMask (entries : List Entry) (left mask : ℕ) : Type 0 where
   pub value : mask ≡ guards (drop left entries)
   pub small : mask < 2 ^ (length entries - left)
   pub within : left ≤ length entries
-
-drop_all : (entries : List Entry) → drop (length entries) entries ≡ []
-drop_all [] = refl
-drop_all (entry ∷ entries) = drop_all entries
-
-pub begins : (entries : List Entry) → IsMask entries (length entries) 0
-begins entries =
-    let none : length entries - length entries ≡ 0 = omega arith in
-    record { value = ap guards (sym (drop_all entries)); small = subst (λ k. 0 < 2 ^ k) (sym none) (omega arith); within = omega arith }
 
 bit : (b : Bool) → (if b then 1 else 0) ≤ 1
 bit true = omega arith
@@ -54,6 +45,3 @@ one_more entries left mask new entry guard m some is which e =
 
     rolled_back : (a b : ℕ) → 2 * a + b ≡ b + 2 * a
     rolled_back a b = omega arith
-
-pub whole : (entries : List Entry) (left mask : ℕ) → left ≡ 0 → IsMask entries left mask → mask ≡ guards entries
-whole entries left mask none m = m.value ∙ ap (λ k. guards (drop k entries)) none

@@ -23,9 +23,6 @@ module _ {O : Type 0} (rules : Rules O) (directives : List Directive) (old : Sta
     pub refused : (rest i s).refused ≡ all.refused
     pub leads : after_by rules (drop i directives) s ≡ after_by rules directives old
 
-  pub begins : SoFar 0 [] old
-  begins = record { made_all = refl; refused = refl; leads = refl }
-
   module _ (i : ℕ) (directive d : Directive) (inside : i < length directives) (is : directive ≡ get_or directives i d) (made : List O) (s : State) (h : SoFar i made s) where
     here : drop i directives ≡ directive ∷ drop (i + 1) directives
     here =

@@ -20,7 +20,7 @@ use Rattle.bl_rob.specs.declared.entry.Register.{Register}
 use Rattle.bl_rob.specs.declared.entry.Source.{Source}
 use Rattle.bl_rob.specs.declared.entry.Source.TheVariants.{Holds}
 use Rattle.bl_rob.specs.declared.entry.Work.{Work}
-use Rattle.bl_rob.specs.declared.entry.Work.TheVariants.{Nop, Assign, Load, Held, Done, Store, Ready, Guard, Fail}
+use Rattle.bl_rob.specs.declared.entry.Work.TheVariants.{Nop, Assign, Load, Store}
 use Rattle.bl_rob.specs.declared.front.Front.{Front}
 
 both : {A B C : Type 0} (f : A → B → C) (a c : A) (b d : B) → a ≡ c → b ≡ d → f a b ≡ f c d
@@ -91,17 +91,11 @@ module _ (program : Program) (globals : List GlobalDef) (same : length globals �
 
   act_same : (registers : Registers) (space : List ℕ) (entries : List Entry) (work : Work)
       → act with_globals registers space entries work ≡ act program registers space entries work
-  act_same registers space entries Nop = refl
-  act_same registers space entries (Assign protect op to a b c) = refl
   act_same registers space entries (Load protect kind memory to offset address) =
       loads_same space (guards entries) (has_store entries) protect kind memory to offset (visible_of registers entries address)
-  act_same registers space entries (Held to value) = refl
-  act_same registers space entries (Done to value) = refl
   act_same registers space entries (Store kind memory offset address value) =
       stores_same (guards entries) kind memory offset (visible_of registers entries address) (visible_of registers entries value)
-  act_same registers space entries (Ready kind memory offset address value) = refl
-  act_same registers space entries (Guard cond predicted other chain) = refl
-  act_same registers space entries (Fail kind) = refl
+  act_same registers space entries _ = refl
 
   exec_same : (n : ℕ) (s : State) (o : Option Entry) → exec_entry with_globals n s o ≡ exec_entry program n s o
   exec_same n s None = refl
@@ -109,14 +103,7 @@ module _ (program : Program) (globals : List GlobalDef) (same : length globals �
 
   retired_same : (s : State) (entries : List Entry) (work : Work) → retire_work with_globals s entries work ≡ retire_work program s entries work
   retired_same s entries Nop = refl
-  retired_same s entries (Assign protect op to a b c) = refl
-  retired_same s entries (Load protect kind memory to offset address) = refl
-  retired_same s entries (Held to value) = refl
-  retired_same s entries (Done to value) = refl
-  retired_same s entries (Store kind memory offset address value) = refl
-  retired_same s entries (Ready kind memory offset address value) = refl
-  retired_same s entries (Guard cond predicted other chain) = refl
-  retired_same s entries (Fail kind) = refl
+  retired_same s entries _ = refl
 
   retire_same : (s : State) (entries : List Entry) → retire with_globals s entries ≡ retire program s entries
   retire_same s [] = refl

@@ -6,27 +6,23 @@ use Rattle.std.proofs.lemmas.List.{length-append}
 use Rattle.std.proofs.lemmas.Option.{get_or_from_slice_get}
 use Rattle.bl_base.specs.declared.number.Pos.{Pos}
 use Rattle.bl_base.proofs.Lists.{within_get}
-use Rattle.bl_ops.specs.declared.access.AccessKind.{AccessKind}
-use Rattle.bl_ops.specs.declared.op.Op.{Op}
 use Rattle.bl_cmd.specs.Layout.{command_at}
 use Rattle.bl_cmd.specs.declared.command.Command.{Command}
 use Rattle.bl_cmd.specs.declared.command.Command.TheVariants as command
 use Rattle.bl_cmd.specs.declared.command.Operand.{Operand}
 use Rattle.bl_cmd.specs.declared.definitions.ProgramParts.{ProgramParts as Program}
-use Rattle.bl_rob.specs.CallResults.{ComesBy, Steps, act_by, command_from, next_command, rolled_back_at}
-use Rattle.bl_rob.specs.Machines.{State, at_position, fetched, fetched_from, grown, fetch, source_of, guess, predict, has_room, directive_step, is_guard, assigns, loads, stores, frees, act, become, rolled_back, acted, exec_entry}
+use Rattle.bl_rob.specs.CallResults.{ComesBy, Steps, command_from, next_command, rolled_back_at}
+use Rattle.bl_rob.specs.Machines.{State, at_position, fetched, fetched_from, grown, fetch, source_of, guess, predict, has_room, directive_step, is_guard, become, rolled_back}
 use Rattle.bl_rob.specs.declared.directive.Directive.TheVariants.{Predict}
 use Rattle.bl_rob.specs.declared.directive.End.{End}
 use Rattle.bl_rob.specs.declared.directive.Observation.{Observation}
 use Rattle.bl_rob.specs.declared.directive.Observation.TheVariants as seen
 use Rattle.bl_rob.specs.declared.directive.StepError.{StepError}
 use Rattle.bl_rob.specs.declared.directive.StepError.TheVariants.{Memory}
-use Rattle.bl_rob.specs.declared.entry.Act.TheVariants.{Idle, Becomes, RollsBack}
 use Rattle.bl_rob.specs.declared.entry.Entry.{Entry}
-use Rattle.bl_rob.specs.declared.entry.Register.{Register}
 use Rattle.bl_rob.specs.declared.entry.Source.{Source}
 use Rattle.bl_rob.specs.declared.entry.Work.{Work}
-use Rattle.bl_rob.specs.declared.entry.Work.TheVariants.{Nop, Assign, Load, Held, Done, Store, Ready, Guard, Fail}
+use Rattle.bl_rob.specs.declared.entry.Work.TheVariants.{Nop, Guard}
 
 -- ---- fetching
 
@@ -88,58 +84,6 @@ module _ (most : ℕ) (program : Program) (s new : State) (cond : Operand) (one 
 
 -- ---- executing
 
-module _ (program : Program) (n : ℕ) (s : State) where
-  pub is_idle : (o : Option Entry) → act_by program s n o ≡ Idle → exec_entry program n s o ≡ None
-  is_idle None h = refl
-  is_idle (Some entry) h = ap (acted n s entry) h
-
-  pub becomes : (o : Option Entry) (entry : Entry) (work : Work) (observation : Observation) → o ≡ Some entry → act_by program s n o ≡ Becomes work observation
-      → exec_entry program n s o ≡ Some (become n entry.position work s, observation)
-  becomes None entry work observation e h = cc
-  becomes (Some x) entry work observation e h =
-      let same : x ≡ entry = cc in
-      ap (acted n s x) h ∙ ap (λ (y : Entry). Some (become n y.position work s, observation)) same
-
-  pub rolls_back : (o : Option Entry) → act_by program s n o ≡ RollsBack → exec_entry program n s o ≡ Some (rolled_back_at n s o, seen.Rollback n)
-  rolls_back None h = cc
-  rolls_back (Some entry) h = ap (acted n s entry) h
-
-  pub is_judged : (o : Option Entry) → act_by program s n o ≡ RollsBack → IfSome o (λ entry. IsTrue (is_guard entry.work))
-  is_judged None h = tt
-  is_judged (Some entry) h = by entry.work h
-    where
-      no_assign : (mask : ℕ) (protect : Bool) (op : Op) (to : Register) (a b c : Option ℕ) → assigns mask protect op to a b c ≡ RollsBack → ⊥
-      no_assign mask protect op to (Some a) (Some b) (Some c) h = cc
-      no_assign mask protect op to (Some a) (Some b) None h = cc
-      no_assign mask protect op to (Some a) None c h = cc
-      no_assign mask protect op to None b c h = cc
-
-      no_load : (space : List ℕ) (mask : ℕ) (passes protect : Bool) (kind : AccessKind) (memory : ℕ) (to : Register) (offset : ℕ) (a : Option ℕ)
-          → loads program space mask passes protect kind memory to offset a ≡ RollsBack → ⊥
-      no_load space mask passes protect kind memory to offset None h = cc
-      no_load space mask true protect kind memory to offset (Some a) h = cc
-      no_load space mask false protect kind memory to offset (Some a) h = cc
-
-      no_store : (mask : ℕ) (kind : AccessKind) (memory offset : ℕ) (a b : Option ℕ) → stores program mask kind memory offset a b ≡ RollsBack → ⊥
-      no_store mask kind memory offset (Some a) (Some b) h = cc
-      no_store mask kind memory offset (Some a) None h = cc
-      no_store mask kind memory offset None b h = cc
-
-      no_held : (guarded : Bool) (to : Register) (value : ℕ) → frees guarded to value ≡ RollsBack → ⊥
-      no_held true to value h = cc
-      no_held false to value h = cc
-
-      by : (work : Work) → act program s.registers s.space (take n s.buffer) work ≡ RollsBack → IsTrue (is_guard work)
-      by Nop h = cc
-      by (Assign protect op to a b c) h = absurd (no_assign _ protect op to _ _ _ h)
-      by (Load protect kind memory to offset address) h = absurd (no_load _ _ _ protect kind memory to offset _ h)
-      by (Held to value) h = absurd (no_held _ to value h)
-      by (Done to value) h = cc
-      by (Store kind memory offset address value) h = absurd (no_store _ kind memory offset _ _ h)
-      by (Ready kind memory offset address value) h = cc
-      by (Guard cond predicted other chain) h = refl
-      by (Fail kind) h = cc
-
 -- an item put at a place of a list
 pub set_split : {A : Type 0} (xs : List A) (n : ℕ) (x : A) → n < length xs → set xs n x ≡ take n xs ++ x ∷ drop (suc n) xs
 set_split [] n x lt = absurd (omega arith)
@@ -184,14 +128,7 @@ guard_at s n (Some entry) x h lt is g = subst (λ (e : Entry). IsTrue (is_guard 
 
 pub not_guard : (w : Work) → IsTrue (is_guard w)
     → ((cond : Source) (predicted : Bool) (other : ℕ) (chain : List ℕ) → w ≡ Guard cond predicted other chain → ⊥) → ⊥
-not_guard Nop h never = cc
-not_guard (Assign protect op to a b c) h never = cc
-not_guard (Load protect kind memory to offset address) h never = cc
-not_guard (Held to value) h never = cc
-not_guard (Done to value) h never = cc
-not_guard (Store kind memory offset address value) h never = cc
-not_guard (Ready kind memory offset address value) h never = cc
 not_guard (Guard cond predicted other chain) h never = never cond predicted other chain refl
-not_guard (Fail kind) h never = cc
+not_guard _ h never = cc
 
 -- ---- retiring

@@ -1,16 +1,17 @@
 -- What is visible is what the last writer has.
-use Rattle.std.proofs.Common.{◌≡◌, ◌↔◌, ◌⊎◌, ◌-◌, ◌<◌, ◌≤◌, ℕ, suc, Bool, true, false, List, [], ◌∷◌, ◌++◌, length, take, drop, get_or, Option, Some, None, refl, sym, ap, subst, ◌∙◌, inl, inr, arith}
+use Rattle.std.proofs.Common.{◌≡◌, ◌↔◌, ◌⊎◌, ◌-◌, ◌<◌, ◌≤◌, ℕ, suc, Bool, true, false, List, [], ◌∷◌, ◌++◌, length, take, drop, get_or, Option, Some, refl, sym, ap, subst, ◌∙◌, inl, inr, arith}
+use Rattle.std.specs.Prelude.{if◌then◌else◌}
 use Rattle.std.specs.List.{fold}
 use Rattle.std.proofs.lemmas.Bool.{cond-true, cond-false}
 use Rattle.std.proofs.lemmas.List.Elements.{All-cons, All-head, All-nil, All-tail}
-use Rattle.std.proofs.Math.Seq.{drop-cons, split_at}
+use Rattle.std.proofs.Math.Seq.{split_at}
 use Rattle.bl_cmd.specs.Steps.{Registers}
 use Rattle.bl_rob.specs.LastWriters.{NoneWrites, Sees, is_target, target_of, unwritten, value_of, writes, written}
-use Rattle.bl_rob.specs.Machines.{behind, is_at, visible}
+use Rattle.bl_rob.specs.Machines.{behind, visible}
 use Rattle.bl_rob.specs.declared.entry.Entry.{Entry}
 use Rattle.bl_rob.specs.declared.entry.Register.{Register}
 use Rattle.bl_rob.specs.declared.entry.Work.{Work}
-use Rattle.bl_rob.specs.declared.entry.Work.TheVariants.{Nop, Assign, Load, Held, Done, Store, Ready, Guard, Fail}
+use Rattle.bl_rob.specs.declared.entry.Work.TheVariants.{Nop}
 
 -- the last of entries that writes a register
 record LastWriter (entries : List Entry) (x : Register) : Type 0 where
@@ -22,27 +23,15 @@ record LastWriter (entries : List Entry) (x : Register) : Type 0 where
   none : NoneWrites behind x
 
 module _ (x : Register) where
+  behind_is : (found : Option ℕ) (work : Work) → behind x found work ≡ (if is_target (target_of work) x then value_of work else found)
+  behind_is found Nop = refl
+  behind_is found _ = refl
+
   behind_writer : (found : Option ℕ) (work : Work) → is_target (target_of work) x ≡ true → behind x found work ≡ value_of work
-  behind_writer found Nop e = cc
-  behind_writer found (Assign protect op to a b c) e = cond-true (is_at to x.depth x.var) None found e
-  behind_writer found (Load protect kind memory to offset address) e = cond-true (is_at to x.depth x.var) None found e
-  behind_writer found (Held to value) e = cond-true (is_at to x.depth x.var) None found e
-  behind_writer found (Done to value) e = cond-true (is_at to x.depth x.var) (Some value) found e
-  behind_writer found (Store kind memory offset address value) e = cc
-  behind_writer found (Ready kind memory offset address value) e = cc
-  behind_writer found (Guard cond predicted other chain) e = cc
-  behind_writer found (Fail kind) e = cc
+  behind_writer found work e = behind_is found work ∙ cond-true (is_target (target_of work) x) (value_of work) found e
 
   behind_other : (found : Option ℕ) (work : Work) → is_target (target_of work) x ≡ false → behind x found work ≡ found
-  behind_other found Nop e = refl
-  behind_other found (Assign protect op to a b c) e = cond-false (is_at to x.depth x.var) None found e
-  behind_other found (Load protect kind memory to offset address) e = cond-false (is_at to x.depth x.var) None found e
-  behind_other found (Held to value) e = cond-false (is_at to x.depth x.var) None found e
-  behind_other found (Done to value) e = cond-false (is_at to x.depth x.var) (Some value) found e
-  behind_other found (Store kind memory offset address value) e = refl
-  behind_other found (Ready kind memory offset address value) e = refl
-  behind_other found (Guard cond predicted other chain) e = refl
-  behind_other found (Fail kind) e = refl
+  behind_other found work e = behind_is found work ∙ cond-false (is_target (target_of work) x) (value_of work) found e
 
   -- what is visible behind entries, from what was before them
   abbrev from : Option ℕ → List Entry → Option ℕ
@@ -107,19 +96,12 @@ pub record Unwritten (entries : List Entry) (x : Register) (left : ℕ) : Type 0
   pub none : NoneWrites (drop left entries) x
 
 module _ (entries : List Entry) (x : Register) where
-  drop_all : (entries : List Entry) → drop (length entries) entries ≡ []
-  drop_all [] = refl
-  drop_all (entry ∷ entries) = drop_all entries
-
   module _ (left : ℕ) (entry : Entry) (u : Unwritten entries x left) (some : 0 < left) (is : entry ≡ get_or entries (left - 1) entry) where
     next : suc (left - 1) ≡ left
     next = omega (arith, some)
 
     inside : left - 1 < length entries
     inside = omega (arith, some, u.within)
-
-    behind_it : drop (left - 1) entries ≡ entry ∷ drop left entries
-    behind_it = drop-cons entries (left - 1) entry inside ∙ (λ i. sym is i ∷ drop (next i) entries)
 
     cut : entries ≡ take (left - 1) entries ++ entry ∷ drop left entries
     cut = split_at entries (left - 1) entry inside ∙ (λ i. take (left - 1) entries ++ sym is i ∷ drop (next i) entries)
