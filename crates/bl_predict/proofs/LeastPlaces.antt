@@ -4,7 +4,7 @@ use Rattle.std.specs.Prelude.{◌&&◌, is_some, not}
 use Rattle.std.specs.List.{find, range_with_len}
 use Rattle.std.specs.Option.{option_or}
 use Rattle.bl_predict.specs.Drives.{execution_of, least}
-use Rattle.bl_predict.specs.declared.choice.Execution.TheVariants.{Disabled, Enabled, Reading}
+use Rattle.bl_predict.specs.declared.choice.Readiness.TheVariants.{Disabled, Enabled, Reading}
 
 one_more : (test : ℕ → Bool) (n k : ℕ) → n < k → find test (range_with_len n (k - n)) ≡ cond (test n) (Some n) (find test (range_with_len (n + 1) (k - (n + 1))))
 one_more test n k lt =

@@ -18,8 +18,8 @@ use Rattle.bl_rob.specs.declared.entry.Work.{Work}
 use Rattle.bl_rob.specs.declared.entry.Work.TheVariants.{Nop, Assign, Load, Held, Done, Store, Ready, Guard, Fail}
 use Rattle.bl_rob.proofs.PlainTracks.{entry_at}
 use Rattle.bl_predict.specs.Drives.{execution_at, execution_of, is_asked, is_load, is_read, shows_read}
-use Rattle.bl_predict.specs.declared.choice.Execution.{Execution}
-use Rattle.bl_predict.specs.declared.choice.Execution.TheVariants.{Absent, Disabled, Enabled, Reading}
+use Rattle.bl_predict.specs.declared.choice.Readiness.{Readiness}
+use Rattle.bl_predict.specs.declared.choice.Readiness.TheVariants.{Absent, Disabled, Enabled, Reading}
 
 module _ (n : ℕ) (s : State) (x : Entry) where
   abbrev Mute : Act → Type 0
@@ -59,13 +59,13 @@ module _ (n : ℕ) (s : State) (x : Entry) where
   judges_mute predicted (Some a) = judged_mute (agree predicted (truth a))
 
 -- what is told of an execution by whether its entry is asked, whether it is enabled, and whether the entry loads
-abbrev said : Bool → Bool → Bool → Execution
+abbrev said : Bool → Bool → Bool → Readiness
 said asked enabled loads = if asked && enabled then (if loads then Reading else Enabled) else Disabled
 
-abbrev by_kind : Kind → Bool → Bool → Execution
+abbrev by_kind : Kind → Bool → Bool → Readiness
 by_kind k wanted enabled = said (is_asked k wanted) enabled (is_load k)
 
-abbrev told : Option (Pos × Kind) → Bool → Bool → Execution
+abbrev told : Option (Pos × Kind) → Bool → Bool → Readiness
 told None wanted enabled = Absent
 told (Some x) wanted enabled = by_kind x.1 wanted enabled
 
@@ -150,14 +150,14 @@ module _ (Q : Program) (n : ℕ) (s : State) (wanted : Bool) (o : Option Entry) 
   finds_enabled loads e d l = (λ i. said (sym e i) (sym d i) (sym l i)) ∙ found
 
 -- what is found at a place where there is an entry
-abbrev pub IsEntry : Execution → Type 0
+abbrev pub IsEntry : Readiness → Type 0
 IsEntry Absent = ⊥
 IsEntry Disabled = Unit {0}
 IsEntry Enabled = Unit {0}
 IsEntry Reading = Unit {0}
 
 module _ (Q : Program) (s : State) (n : ℕ) (wanted : Bool) where
-  pub is_present : (o : Option Entry) (what : Execution) → execution_at Q s n wanted o ≡ what → IsEntry what
+  pub is_present : (o : Option Entry) (what : Readiness) → execution_at Q s n wanted o ≡ what → IsEntry what
       → execution_of (shows_read (exec_entry Q n s o)) (wanted && is_some (exec_entry Q n s o)) ≡ what
   is_present None what e h = absurd (subst IsEntry (sym e) h)
   is_present (Some entry) what e h = e

@@ -17,8 +17,8 @@ use Rattle.bl_rob.specs.declared.entry.Entry.{Entry}
 use Rattle.bl_rob.specs.declared.entry.Work.{Work}
 use Rattle.bl_rob.specs.declared.entry.Work.TheVariants as work
 use Rattle.bl_predict.specs.Lines.{line_of, has, accessed}
-use Rattle.bl_predict.specs.declared.choice.Execution.{Execution}
-use Rattle.bl_predict.specs.declared.choice.Execution.TheVariants as execution
+use Rattle.bl_predict.specs.declared.choice.Readiness.{Readiness}
+use Rattle.bl_predict.specs.declared.choice.Readiness.TheVariants as execution
 use Rattle.bl_predict.specs.declared.driver.Driven.{Driven}
 use Rattle.bl_predict.specs.declared.driver.Driver.{Driver}
 
@@ -165,17 +165,17 @@ driven program zero d = d
 driven program (suc most) d = unless_ended (end_in d.state) (driven program most (drive_step program d)) d
 
 -- what the execution of an entry would be: where it is enabled, and where it is observed as a read
-abbrev pub execution_of : Bool → Bool → Execution
+abbrev pub execution_of : Bool → Bool → Readiness
 execution_of true enabled = execution.Reading
 execution_of false true = execution.Enabled
 execution_of false false = execution.Disabled
 
 -- what is told of it, where one that doesn't read is wanted or isn't
-abbrev pub execution_by : Bool → Option (State × Observation) → Execution
+abbrev pub execution_by : Bool → Option (State × Observation) → Readiness
 execution_by wanted step = execution_of (shows_read step) (wanted && is_some step)
 
 -- the same of the entry at a place, where there is one
-abbrev pub execution_at : Program → State → ℕ → Bool → Option Entry → Execution
+abbrev pub execution_at : Program → State → ℕ → Bool → Option Entry → Readiness
 execution_at program s n wanted None = execution.Absent
 execution_at program s n wanted (Some entry) = execution_by wanted (exec_entry program n s (Some entry))
 

@@ -10,7 +10,7 @@ use bl_rob::{Directive, Kind, Rob};
 
 /// What the execution of an entry would be.
 #[derive(Clone, Copy)]
-pub(crate) enum Execution {
+pub(crate) enum Readiness {
     /// There is no such entry.
     Absent,
     /// It isn't enabled, or it doesn't read and isn't wanted.
@@ -41,22 +41,22 @@ fn is_asked(kind: Kind, wanted: bool) -> bool
 }
 
 /// What the execution of an entry would be, where one that doesn't read is wanted or isn't.
-fn look_at(rob: &Rob<'_, 64>, n: u32, wanted: bool) -> Execution
+fn look_at(rob: &Rob<'_, 64>, n: u32, wanted: bool) -> Readiness
     ensures { result ≡ execution_at rob.now.program (shown rob.now.machine) n wanted (slice_get (shown rob.now.machine).buffer n) }
 {
     let Some((_, kind)) = rob.entry(n) else {
-        return Execution::Absent;
+        return Readiness::Absent;
     };
     if !is_asked(kind, wanted) {
-        return Execution::Disabled;
+        return Readiness::Disabled;
     }
     if !rob.enabled(Directive::Exec(n)) {
-        return Execution::Disabled;
+        return Readiness::Disabled;
     }
     if is_load(kind) {
-        Execution::Reading
+        Readiness::Reading
     } else {
-        Execution::Enabled
+        Readiness::Enabled
     }
 }
 
@@ -68,10 +68,10 @@ fn next_execution(rob: &Rob<'_, 64>, count: u32) -> Option<u32>
     let mut first = None;
     for n in 0..count {
         match look_at(rob, n, first.is_none()) {
-            Execution::Absent => return first,
-            Execution::Reading => return Some(n),
-            Execution::Enabled => first = Some(n),
-            Execution::Disabled => {}
+            Readiness::Absent => return first,
+            Readiness::Reading => return Some(n),
+            Readiness::Enabled => first = Some(n),
+            Readiness::Disabled => {}
         }
     }
     first

@@ -369,7 +369,7 @@ fn no_words_are_no_request(rt: HostRuntime) -> Result<(), Fail> {
 }
 
 #[test]
-fn a_predict_has_its_turns_and_a_trace_of_its_own(rt: HostRuntime) -> Result<(), Fail> {
+fn a_predict_has_its_steps_and_a_trace_of_its_own(rt: HostRuntime) -> Result<(), Fail> {
     assert_eq!(rt; told(rt.alloc(), &OF_PREDICTIONS)?, 9);
     Ok(())
 }

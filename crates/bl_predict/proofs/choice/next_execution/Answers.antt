@@ -5,7 +5,7 @@ use Rattle.bl_rob.specs.Machines.{directive_step}
 use Rattle.bl_rob.specs.Robs.{RobView}
 use Rattle.bl_rob.specs.declared.directive.Directive.TheVariants.{Exec}
 use Rattle.bl_predict.specs.Drives.{shows_read}
-use Rattle.bl_predict.specs.declared.choice.Execution.TheVariants.{Disabled, Enabled, Reading}
+use Rattle.bl_predict.specs.declared.choice.Readiness.TheVariants.{Disabled, Enabled, Reading}
 use Rattle.bl_predict.proofs.LeastPlaces.{LooksOn, looks_begin, looks_disabled, looks_enabled, looks_end, looks_found, looks_past}
 use Rattle.bl_predict.proofs.ReadObservations.{enabled_past, is_absent, is_present, reads_past}
 use Rattle.bl_predict.proofs.choice.next_execution.Goals.{in-Enabled, in-Disabled}
