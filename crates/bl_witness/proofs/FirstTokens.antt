@@ -16,10 +16,10 @@ use Rattle.bl_witness.specs.Taken.{TakesValue}
 use Rattle.bl_witness.proofs.Arrays.{parsed}
 use Rattle.bl_witness.proofs.Turns.{array_is, object_is, takes_boolean, takes_null, takes_number, takes_string}
 
--- what isn't the token's is not the value's
-record Tells (t : Token) (d : Data) : Type 0 where
-  pub array : (t ≡ BeginArray → ⊥) → None ≡ as_array d
-  pub object : (t ≡ BeginObject → ⊥) → None ≡ as_object d
+-- what isn't the token's is not the value's; no array and no object begins at depth 0
+record Tells (depth : ℕ) (t : Token) (d : Data) : Type 0 where
+  pub array : (0 < depth → t ≡ BeginArray → ⊥) → None ≡ as_array d
+  pub object : (0 < depth → t ≡ BeginObject → ⊥) → None ≡ as_object d
   pub whole : whole_in t ≡ None → None ≡ option_and_then as_u64 (as_number d)
 
 abbrev pick : {A : Type 0} → A → Option A → A
@@ -36,23 +36,25 @@ module _ (depth : ℕ) (ts new : List spec.Token) where
       let e : ◌≡◌ {A = Option (Data × List spec.Token)} None (Some (d, new)) = sym (ap (converted of_json) none) ∙ h in
       absurd (cc)
 
-  opened_object : (k : ℕ) (d : Data) → TakesValue k (spec.begin_object ∷ ts) d new → (ms : Members) × (d ≡ object ms)
+  opened_object : (k : ℕ) (d : Data) → TakesValue k (spec.begin_object ∷ ts) d new → (0 < k) × ((ms : Members) × (d ≡ object ms))
   unfolding value
   opened_object zero d h = absurd (cc)
-  opened_object (suc k) d h = let all = parsed object _ d new (sym (object_is (suc k) ts (omega arith)) ∙ h) in (all.0, all.2)
+  opened_object (suc k) d h = let all = parsed object _ d new (sym (object_is (suc k) ts (omega arith)) ∙ h) in (omega arith, (all.0, all.2))
 
-  opened_array : (k : ℕ) (d : Data) → TakesValue k (spec.begin_array ∷ ts) d new → (ds : Items) × (d ≡ array ds)
+  opened_array : (k : ℕ) (d : Data) → TakesValue k (spec.begin_array ∷ ts) d new → (0 < k) × ((ds : Items) × (d ≡ array ds))
   unfolding value
   opened_array zero d h = absurd (cc)
-  opened_array (suc k) d h = let all = parsed array _ d new (sym (array_is (suc k) ts (omega arith)) ∙ h) in (all.0, all.2)
+  opened_array (suc k) d h = let all = parsed array _ d new (sym (array_is (suc k) ts (omega arith)) ∙ h) in (omega arith, (all.0, all.2))
 
-  tells : (t : Token) (d : Data) → TakesValue depth (token_of t ∷ ts) d new → Tells t d
+  tells : (t : Token) (d : Data) → TakesValue depth (token_of t ∷ ts) d new → Tells depth t d
   tells BeginObject d h =
-      let is = sym (opened_object depth d h).1 in
-      record { array = λ _. ap as_array is; object = λ other. absurd (other refl); whole = λ _. ap (λ e. option_and_then as_u64 (as_number e)) is }
+      let opened = opened_object depth d h in
+      let is = sym opened.1.1 in
+      record { array = λ _. ap as_array is; object = λ other. absurd (other opened.0 refl); whole = λ _. ap (λ e. option_and_then as_u64 (as_number e)) is }
   tells BeginArray d h =
-      let is = sym (opened_array depth d h).1 in
-      record { array = λ other. absurd (other refl); object = λ _. ap as_object is; whole = λ _. ap (λ e. option_and_then as_u64 (as_number e)) is }
+      let opened = opened_array depth d h in
+      let is = sym opened.1.1 in
+      record { array = λ other. absurd (other opened.0 refl); object = λ _. ap as_object is; whole = λ _. ap (λ e. option_and_then as_u64 (as_number e)) is }
   tells EndObject d h = never spec.end_object d (value_is depth (spec.end_object ∷ ts)) h
   tells EndArray d h = never spec.end_array d (value_is depth (spec.end_array ∷ ts)) h
   tells (Key s) d h = never (spec.key s.now) d (value_is depth (spec.key s.now ∷ ts)) h
@@ -68,7 +70,7 @@ module _ (depth : ℕ) (ts new : List spec.Token) where
       record { array = λ _. ap as_array is; object = λ _. ap as_object is; whole = λ _. ap (λ e. option_and_then as_u64 (as_number e)) is }
   tells (Number s) d h = by (number_of s.now) refl (sym (ap (converted of_json) (value_is depth (spec.number s.now ∷ ts))) ∙ h)
     where
-      by : (o : Option Num) → number_of s.now ≡ o → ◌≡◌ {A = Option (Data × List spec.Token)} (option_map (λ x. (x, ts)) (option_map number (number_of s.now))) (Some (d, new)) → Tells (Number s) d
+      by : (o : Option Num) → number_of s.now ≡ o → ◌≡◌ {A = Option (Data × List spec.Token)} (option_map (λ x. (x, ts)) (option_map number (number_of s.now))) (Some (d, new)) → Tells depth (Number s) d
       by None shown e =
           let none : ◌≡◌ {A = Option (Data × List spec.Token)} None (Some (d, new)) = sym (ap (λ o. option_map (λ x. (x, ts)) (option_map number o)) shown) ∙ e in
           absurd (cc)
@@ -80,10 +82,10 @@ module _ (depth : ℕ) (ts new : List spec.Token) where
             whole = λ none. sym none ∙ ap (option_and_then as_u64) shown ∙ ap (λ e. option_and_then as_u64 (as_number e)) is;
           }
 
-  pub not_array : (t : Token) (d : Data) → TakesValue depth (token_of t ∷ ts) d new → (t ≡ BeginArray → ⊥) → as_array d ≡ None
+  pub not_array : (t : Token) (d : Data) → TakesValue depth (token_of t ∷ ts) d new → (0 < depth → t ≡ BeginArray → ⊥) → as_array d ≡ None
   not_array t d h other = sym ((tells t d h).array other)
 
-  pub not_object : (t : Token) (d : Data) → TakesValue depth (token_of t ∷ ts) d new → (t ≡ BeginObject → ⊥) → as_object d ≡ None
+  pub not_object : (t : Token) (d : Data) → TakesValue depth (token_of t ∷ ts) d new → (0 < depth → t ≡ BeginObject → ⊥) → as_object d ≡ None
   not_object t d h other = sym ((tells t d h).object other)
 
   pub not_whole : (limit : ℕ) (t : Token) (d : Data) → TakesValue depth (token_of t ∷ ts) d new → whole_in t ≡ None → None ≡ whole_below limit d

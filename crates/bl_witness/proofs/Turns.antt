@@ -1,6 +1,6 @@
 -- The grammar's loops, a turn at a time, as what they read becomes data.
 use Rattle.std.proofs.Common.{◌≡◌, ◌∙◌, ◌<◌, ◌≤◌, ◌-◌, ap, refl, ℕ, zero, suc, Bool, true, false, List, [], ◌∷◌, length, Option, Some, None, is_some}
-use Rattle.std.specs.Prelude.{Err, IfOk, Ok, Result, option_and_then, option_map, ⊤}
+use Rattle.std.specs.Prelude.{Err, IfOk, Ok, Result, option_and_then, option_map}
 use Rattle.json.specs.Token.{Token}
 use Rattle.json.specs.Json as json
 use Rattle.json.specs.Json.{Parse, after_end_array, if_last, items, items_step, members, parse_map, read_key, value}
@@ -100,6 +100,9 @@ module _ (p : Parse json.Json) where
 
 -- ---- values by their first token
 
+pub lacks_none : (depth : ℕ) (ts : List Token) → ts ≡ [] → LacksValue depth ts
+lacks_none depth ts none = ap (converted of_json) (ap (value depth) none ∙ value_is depth [])
+
 module _ (depth : ℕ) (ts : List Token) (some : 0 < depth) where
   pub array_is : converted of_json (value depth (Token.begin_array ∷ ts)) ≡ parse_map array (converted of_items (items (value (depth - 1)) (length ts) ts))
   array_is = ap (converted of_json) (value-begin_array depth ts some) ∙ of_array (items (value (depth - 1)) (length ts) ts)
@@ -142,15 +145,6 @@ in_range (Some x) e = (x, refl)
 pub out_of_range : (o : Option Num) → false ≡ is_some o → o ≡ None
 out_of_range None e = refl
 out_of_range (Some x) e = absurd (cc)
-
--- ---- what is passed
-
-abbrev pub passed : {A : Type 0} → Option (A × List Token) → Option (⊤ × List Token)
-passed o = parse_map (λ _. tt) o
-
-pub passed_item : (d : Data) (o : Option (Items × List Token)) → passed (parse_map (item d) o) ≡ passed o
-passed_item d None = refl
-passed_item d (Some p) = refl
 
 -- ---- results
 

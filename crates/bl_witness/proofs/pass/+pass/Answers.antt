@@ -1,55 +1,40 @@
-use Rattle.std.proofs.Common.{◌≡◌, ◌∙◌, ◌-◌, ◌<◌, [], ◌∷◌, length, Some, None, ap, ap₂, refl, arith}
-use Rattle.json.specs.Json.{after_end_array, items, read_key, value}
+use Rattle.std.proofs.Common.{◌≡◌, ◌∙◌, ◌-◌, ◌<◌, ◌∷◌, length, Some, None, ap, ap₂, refl, arith}
+use Rattle.json.specs.Json.{after_end_array, read_key, value}
 use Rattle.json.specs.Reads.{token_of}
 use Rattle.json.proofs.Grammar.{read_key-shorter, value_is}
 use Rattle.serde_json.specs.Data.{array, boolean, no_members, null, number, object, put, string}
-use Rattle.serde_json.specs.Read.{converted, number_of, of_items, of_json}
-use Rattle.bl_witness.proofs.Arrays.{parsed, unparsed}
-use Rattle.bl_witness.proofs.Turns.{if_ok, in_range, item_lacks, item_read, items_over, key_lacks, lacks_array, lacks_number, lacks_object, member_lacks, member_read, members_over, out_of_range, passed, passed_item, takes_array, takes_boolean, takes_null, takes_number, takes_object, takes_string}
+use Rattle.serde_json.specs.Read.{converted, number_of, of_json}
+use Rattle.bl_witness.proofs.Arrays.{all_read, none_read, not_read, one_read}
+use Rattle.bl_witness.proofs.Turns.{if_ok, in_range, key_lacks, lacks_array, lacks_none, lacks_number, lacks_object, member_lacks, member_read, members_over, out_of_range, takes_array, takes_boolean, takes_null, takes_number, takes_object, takes_string}
 use Rattle.bl_witness.proofs.pass.+pass.Goals as goal
 
 pub pass-returns-in_err-token-clause-err : goal.pass-returns-in_err-token-clause-err
-pass-returns-in_err-token-clause-err t c refused =
-    let empty : c.args.reader.now ≡ [] = grind arith in
-    ap (converted of_json) (ap (value c.args.depth) empty ∙ value_is c.args.depth [])
+pass-returns-in_err-token-clause-err t c refused = lacks_none c.args.depth c.args.reader.now (grind arith)
 
 -- ---- items
 
 pub pass_items-items-init : goal.pass_items-items-init
-pass_items-items-init t c = (length c.args.reader.now, omega arith, refl, omega arith)
+pass_items-items-init t c = (none_read (λ _. tt) (λ _. tt) (value c.args.depth) c.args.reader.now (λ _. refl), omega arith)
 
 pub pass_items-items-preserved : goal.pass_items-items-preserved
 pass_items-items-preserved t c =
-    let p = value c.args.depth in
     let l = c.items in
-    let n = l.invariant.0 in
     let going : (after_end_array l.reader ≡ None) × (c.take_end_array.new.self ≡ l.reader) = grind arith in
     let done = c.in_ok-pass.ensures in
-    let d = done.ok.0 in
     let r = c.pass.new.reader in
     let less : length r < length l.reader = rw (← going.1) done.shorter in
-    let turn = item_read p n l.reader r d (omega (arith, l.invariant.1)) going.0 (rw (← going.1) done.ok.1) in (
-      n - 1,
-      omega (arith, l.invariant.1),
-      l.invariant.2 ∙ ap passed turn ∙ passed_item d (converted of_items (items p (n - 1) r)),
-      omega (arith, l.invariant.3),
-    )
+    (one_read _ _ _ _ l.reader l.invariant.0 (λ _. tt) done.ok.0 r (λ _. refl) going.0 (rw (← going.1) done.ok.1) less, omega (arith, l.invariant.1))
 
 pub pass_items-returns-in_err-pass-clause-err : goal.pass_items-returns-in_err-pass-clause-err
 pass_items-returns-in_err-pass-clause-err t c refused =
-    let p = value c.args.depth in
     let l = c.items in
-    let n = l.invariant.0 in
     let going : (after_end_array l.reader ≡ None) × (c.take_end_array.new.self ≡ l.reader) = grind arith in
-    unparsed (λ _. tt) (converted of_items (items p (length c.args.reader.now) c.args.reader.now)) (l.invariant.2 ∙ ap passed (item_lacks p n l.reader going.0 (rw (← going.1) (c.pass.ensures.err (grind arith)))))
+    not_read _ _ _ _ l.reader l.invariant.0 going.0 (rw (← going.1) (c.pass.ensures.err (grind arith)))
 
 pub pass_items-returns-clause-ok : goal.pass_items-returns-clause-ok
 pass_items-returns-clause-ok t c =
-    let p = value c.args.depth in
     let l = c.items in
-    let n = l.invariant.0 in
-    let r = c.take_end_array.new.self in
-    let all = parsed (λ _. tt) (converted of_items (items p (length c.args.reader.now) c.args.reader.now)) tt r (l.invariant.2 ∙ ap passed (items_over p n l.reader r l.invariant.1 (grind arith))) in
+    let all = all_read _ _ _ _ l.reader l.invariant.0 c.take_end_array.new.self (grind arith) in
     (all.0, all.1)
 
 -- ---- members

@@ -1,8 +1,9 @@
 use Rattle.std.proofs.Common.{◌≡◌, ◌+◌, ◌*◌, ◌≤◌, ℕ, length}
-use Rattle.json.specs.Json.{items, members, value}
+use Rattle.std.specs.Prelude.{⊤}
+use Rattle.json.specs.Json.{members, value}
 use Rattle.serde_json.specs.Data.{Members, no_members}
-use Rattle.serde_json.specs.Read.{converted, of_items, of_members}
-use Rattle.bl_witness.proofs.Turns.{passed}
+use Rattle.serde_json.specs.Read.{converted, of_members}
+use Rattle.bl_witness.proofs.Arrays.{ItemsLeft}
 use Rattle.bl_witness.proofs.pass.+pass.Given as goal
 
 abbrev pub decreases-pass : goal.decreases-pass
@@ -19,9 +20,7 @@ decreases-pass_rest l = 3 * l.depth
 
 abbrev pub invariant-pass_items-items : goal.invariant-pass_items-items
 invariant-pass_items-items l =
-    (n : ℕ) × (length l.reader ≤ n)
-    × (passed (converted of_items (items (value l.depth) (length l.initial.reader) l.initial.reader)) ≡ passed (converted of_items (items (value l.depth) n l.reader)))
-    × (length l.reader ≤ length l.initial.reader)
+    ItemsLeft {B = ⊤} (λ _. tt) (λ _. tt) (value l.depth) l.initial.reader l.reader × (length l.reader ≤ length l.initial.reader)
 
 abbrev pub decreases-pass_items-items : goal.decreases-pass_items-items
 decreases-pass_items-items l = length l.reader
