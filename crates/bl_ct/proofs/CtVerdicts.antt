@@ -1,5 +1,5 @@
 -- Verdicts from a whole search and a table of ends.
-use Rattle.std.proofs.Common.{◌≡◌, ℕ, zero, suc, ◌<◌, Bool, false, List, [], ◌∷◌, ◌++◌, length, set, refl, sym, ap, subst, ◌∙◌, inl, inr, not, ◌||◌, nat_eq, Option, Some, None, replicate}
+use Rattle.std.proofs.Common.{◌≡◌, ℕ, zero, suc, ◌<◌, Bool, false, List, [], ◌∷◌, ◌++◌, length, set, refl, sym, ap, subst, ◌∙◌, inl, inr, not, ◌||◌, nat_eq, Option, Some, None}
 use Rattle.std.specs.Prelude.{IsTrue, ◌↔◌, is_some}
 use Rattle.std.specs.List.{All, Contains, slice_index_or}
 use Rattle.std.proofs.Math.Bool.{or-false}
@@ -100,11 +100,6 @@ label_at : (labels : List Label) (x : ℕ) → labelling_of labels x ≡ is_secr
 label_at [] x = refl
 label_at (one ∷ labels) zero = refl
 label_at (one ∷ labels) (suc x) = label_at labels x
-
-pub all_public : (n x : ℕ) → labelling_of (replicate n label.Public) x ≡ false
-all_public zero x = refl
-all_public (suc n) zero = refl
-all_public (suc n) (suc x) = all_public n x
 
 -- one step more
 pub labels_more : (labels : List Label) (steps : List Step) (u : Step) → u.var < length labels → ((x : ℕ) → labelling_of labels x ≡ is_found steps x)

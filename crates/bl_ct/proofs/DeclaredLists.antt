@@ -1,8 +1,8 @@
 -- The lists of what a program declares, whole.
-use Rattle.std.proofs.Common.{◌≡◌, ◌↔◌, ◌⊎◌, inl, inr, ℕ, suc, ◌+◌, ◌^◌, ◌<◌, List, [], ◌∷◌, ◌++◌, length, get_or, map, Option, Some, None, slice_get, refl, sym, ap, subst, ◌∙◌, arith}
+use Rattle.std.proofs.Common.{◌≡◌, ◌↔◌, ◌⊎◌, inl, inr, ℕ, suc, ◌+◌, ◌^◌, ◌<◌, List, [], ◌∷◌, ◌++◌, length, get_or, map, Option, Some, slice_get, refl, sym, ap, subst, ◌∙◌, arith}
 use Rattle.std.specs.Prelude.{IsSomeAnd, option_map}
 use Rattle.std.specs.List.{Contains, slice_index_or}
-use Rattle.std.proofs.lemmas.Option.{none-some, slice_get_within, slice_get-get_or, same_Some}
+use Rattle.std.proofs.lemmas.Option.{slice_get_within, slice_get-get_or, same_Some}
 use Rattle.bl_base.proofs.Lists.{all_get, within_get}
 use Rattle.bl_base.specs.declared.number.Var.{Var}
 use Rattle.bl_base.specs.declared.names.Label.TheVariants as label
@@ -25,7 +25,7 @@ use Rattle.bl_graph.proofs.FirstVariableLemmas.{firsts_at, firsts_length}
 use Rattle.bl_ct.specs.Facts.{AreFacts, DeclaresOne, Gathers, SomeAt, GlobalFits, ParamFits, FunctionFits, LoadFits, StoreFits}
 use Rattle.bl_ct.specs.declared.facts.Declared.{Declared}
 use Rattle.bl_ct.specs.declared.facts.SecretLoad.{SecretLoad}
-use Rattle.bl_ct.proofs.GatheredLists.{Below, gathered, gathers_as, gathers_next, gathers_nothing, gathers_one}
+use Rattle.bl_ct.proofs.GatheredLists.{Below, gathered, gathers_as, gathers_next, gathers_one}
 use Rattle.bl_ct.proofs.KnownRanges.{found}
 
 -- what is known of what stands there
@@ -172,12 +172,6 @@ store_one at_ o var old new some is =
           subst (λ v. use_of at_ v ≡ x) (sym same) (subst (λ a. use_of a x.var.0 ≡ x) h.0 refl)),
       (λ e. subst (λ (y : Use). (y.at.0 ≡ at_) × (option_map (λ (v : Var). v.0) o ≡ Some y.var.0)) e (refl, is_some)),
     ))
-
-pub store_none : (at_ : ℕ) (o : Option Var) (old : List Use) → o ≡ None
-    → Gathers (λ store. (store.at.0 ≡ at_) × (option_map (λ (v : Var). v.0) o ≡ Some store.var.0)) old old
-store_none at_ o old none =
-    gathers_nothing (λ store. (store.at.0 ≡ at_) × (option_map (λ (v : Var). v.0) o ≡ Some store.var.0)) old
-    (λ x h. none-some x.var.0 (sym (ap (option_map (λ (v : Var). v.0)) none) ∙ h.1))
 
 -- ---- what begins a function
 

@@ -1,8 +1,8 @@
 -- Laws of the limits.
-use Rattle.std.proofs.Common.{◌≡◌, ◌⊎◌, inl, inr, ℕ, suc, All, subst, ◌+◌, ◌<◌, List, [], ◌∷◌, length, drop, get_or, max, Option, Some, None, IsSome, refl, add-one, drop-cons, arith, Bool, true, false, cond}
+use Rattle.std.proofs.Common.{◌≡◌, ℕ, suc, All, subst, ◌+◌, ◌<◌, List, ◌∷◌, length, drop, get_or, max, Option, Some, None, IsSome, refl, add-one, drop-cons, arith, Bool, true, false, cond}
 use Rattle.std.proofs.lemmas.List.Recursion.{is_count_by}
 use Rattle.std.specs.Prelude.{count_by}
-use Rattle.std.specs.List.{filter_map, zip}
+use Rattle.std.specs.List.{filter_map}
 use Rattle.std.specs.Option.{option_or}
 use Rattle.bl_wasm.specs.declared.instruction.Instr.{Instr}
 use Rattle.bl_wasm.specs.Limits.{Excess, first_in, greatest_depth}
@@ -21,12 +21,6 @@ or_found None b is = cc
 
 pub first_in_found : {A : Type 0} (found : A → Option Excess) (xs : List A) (i : ℕ) (d : A) → i < length xs → IsSome (found (get_or xs i d)) → first_in found (drop i xs) ≡ found (get_or xs i d)
 first_in_found found xs i d h is = rw (drop-cons xs i d h) (or_found _ _ is)
-
-pub none_in_zip : {A B : Type 0} (found : A × B → Option Excess) (xs : List A) (ys : List B) → (xs ≡ []) ⊎ (ys ≡ []) → first_in found (zip xs ys) ≡ None
-none_in_zip found [] ys empty = refl
-none_in_zip found (x ∷ xs) [] empty = refl
-none_in_zip found (x ∷ xs) (y ∷ ys) (inl e) = cc
-none_in_zip found (x ∷ xs) (y ∷ ys) (inr e) = cc
 
 pub option_or_assoc : {A : Type 0} (a b c : Option A) → option_or (option_or a b) c ≡ option_or a (option_or b c)
 option_or_assoc (Some x) b c = refl
@@ -47,9 +41,7 @@ one_counted : (entry : Import) (kind : ImportKind) (imports : List Import)
     → imported_count (record entry { kind = kind } ∷ imports) ≡ cond (is_function (record entry { kind = kind })) (1 + imported_count imports) (imported_count imports)
 unfolding imported_count
 one_counted entry (import.Function type) imports = omega arith
-one_counted entry (import.Table type) imports = refl
-one_counted entry (import.Memory type) imports = refl
-one_counted entry (import.Global type) imports = refl
+one_counted entry _ imports = refl
 
 pub imports_counted : (imports : List Import) → length (filter_map (λ entry. function_of entry.kind) imports) ≡ count_by is_function imports
 unfolding imported_count

@@ -10,7 +10,7 @@ use Rattle.bl_base.specs.Sums.{sum_below}
 use Rattle.bl_flow.specs.Split.{link_at}
 use Rattle.bl_flow.specs.Flows.{LeadsBack}
 use Rattle.bl_flow.specs.Searches.{part_row}
-use Rattle.bl_flow.specs.Levels.{height, IsStep, AreRowsIn, IsDead, ArePassed, IsShortest}
+use Rattle.bl_flow.specs.Levels.{height, IsStep, AreRowsIn, IsDead, ArePassed}
 use Rattle.bl_base.proofs.Sums.{sum_change}
 
 -- how many links are not passed
@@ -52,15 +52,6 @@ module _ (links : List Link) (capacities : List ℕ) (levels : List (Option ℕ)
     pub falls : (p q : ℕ) → p < q → q < length trail → height levels (to (slice_index trail q)) < height levels (to (slice_index trail p))
     pub above : (place : ℕ) → place < length trail → height levels at < height levels (to (slice_index trail place))
     pub tall : height levels at + length trail ≡ height levels end
-
-  pub begins : (passed : List ℕ) → OnShort passed [] end
-  begins passed = record {
-    back = refl;
-    each = λ place lt. absurd (omega arith);
-    falls = λ p q before lt. absurd (omega arith);
-    above = λ place lt. absurd (omega arith);
-    tall = omega arith;
-  }
 
   -- what holds of a trail's links and of one more
   all_of : (P : ℕ → Type 0) (trail : List ℕ) (k : ℕ) → ((place : ℕ) → place < length trail → P (slice_index trail place)) → P k
@@ -240,16 +231,6 @@ module _ (links : List Link) (capacities : List ℕ) (levels : List (Option ℕ)
         };
         less = omega arith;
       }
-
-  -- a trail back to the root
-  pub shortest : (passed trail : List ℕ) (at parts : ℕ) → State passed trail at parts → at ≡ root → IsShortest links capacities levels root end trail
-  shortest passed trail at parts state e = record {
-    back = subst (λ p. LeadsBack links trail p end) e state.on.back;
-    within = λ place lt. (state.on.each place lt).within;
-    capacity = λ place lt. (state.on.each place lt).capacity;
-    step = λ place lt. (state.on.each place lt).step;
-    apart = λ p q before lt same. let falls = state.on.falls p q before lt in let level = ap (λ j. height levels (to j)) same in omega arith;
-  }
 
   -- no trail is left
   pub no_trail_left : (passed : List ℕ) (at parts : ℕ) → State passed [] at parts → (at ≡ root → ⊥) → length (part_row rows at) ≤ slice_index passed at → IsDead rows root passed end

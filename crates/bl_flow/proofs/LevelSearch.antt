@@ -177,9 +177,6 @@ module _ (links : List Link) (capacities : List ℕ) (root end : ℕ) (levels : 
           let a = before.2 in let b = on.2 in
           (on.0, ap (level_at levels) (sym e) ∙ on.1, omega arith)
 
-  pub to_end : AreLevels links capacities root end levels → AreLevelsToEnd links capacities root end levels
-  to_end are = record { sound = are.sound; least = λ part steps reached _. are.least part steps reached }
-
   pub whole_levels : AreLevelsToEnd links capacities root end levels → level_at levels end ≡ None → AreLevels links capacities root end levels
   whole_levels are none = record { sound = are.sound; least = λ part steps reached. are.least part steps reached (λ d is. absurd (none_some (sym none ∙ is))) }
 

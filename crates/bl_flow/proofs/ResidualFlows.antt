@@ -82,9 +82,6 @@ module _ (n : Network) (range : InRange n) (capacities : List ℕ) (amount : ℕ
   start_lt : (s : ℕ) → Contains n.starts s → s < size n
   start_lt s start = All-contains (λ w. w < size n) n.starts s range.starts start
 
-  end_lt : (e : ℕ) → Contains n.ends e → e < size n
-  end_lt e last = All-contains (λ w. w < size n) n.ends e range.ends last
-
   nothing_if : (x y a : ℕ) → (x ≡ y → ⊥) → amount_if (nat_eq x y) a ≡ 0
   nothing_if x y a other = amount_out (nat_eq x y) a (ne_eqb x y other)
 

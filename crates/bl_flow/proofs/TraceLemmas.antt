@@ -13,7 +13,7 @@ use Rattle.bl_flow.specs.Split.{link_at, both_ways, links_of, in_part, out_part}
 use Rattle.bl_flow.specs.Flows.{amount_if, Adds, Carries, LeadsBack, IsTaken, IsCarried, link_count}
 use Rattle.bl_flow.specs.Searches.{part_row}
 use Rattle.bl_flow.specs.Levels.{AreRowsIn}
-use Rattle.bl_flow.specs.Traces.{ArePassedOver, Brings, OnTrace, on_trail, AreFed, IsTraced}
+use Rattle.bl_flow.specs.Traces.{ArePassedOver, Brings, OnTrace, on_trail, AreFed}
 use Rattle.bl_base.proofs.Sums.{sum_change, sum_term, sum_tight}
 use Rattle.bl_flow.proofs.Amounts.{amount_in, amount_out}
 use Rattle.bl_flow.proofs.ReverseLinks.{forward_at}
@@ -179,9 +179,6 @@ module _ (links : List Link) (count : ℕ) (carries : List ℕ) (end : ℕ) wher
           let split = leads_split links (take (slice_index places part) trail) (drop (slice_index places part) trail) part end (subst (λ w. LeadsBack links w part end) (sym (take-append-drop (slice_index places part) trail)) trace.back) in
           let first : (link_at links (slice_index trail (slice_index places part))).to ≡ split.0 = (subst (λ w. LeadsBack links w part split.0) (drop-cons trail (slice_index places part) 0 found.0) split.2).0 in
           subst (λ p. LeadsBack links (drop (slice_index places part) trail) part p) (sym first ∙ found.1) split.2
-
-      pub traced : (root : ℕ) → part ≡ root → IsTraced links count carries trail root end
-      traced root e = record { back = subst (λ p. LeadsBack links trail p end) e trace.back; within = trace.within; some = trace.some; apart = trace_apart }
 
 -- a circle less carries as much
 pub carries_circle : (links : List Link) (m : ℕ) (old new : ℕ → ℕ) (x y a p d : ℕ) → Carries links m old x y a → Adds links m new old p p d → Carries links m new x y a

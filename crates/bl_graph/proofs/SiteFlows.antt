@@ -1,19 +1,10 @@
 -- How much flows through a site: one place of a path more.
-use Rattle.std.proofs.Common.{cond, ◌≡◌, ◌∙◌, ℕ, ◌+◌, ◌-◌, ◌*◌, ◌^◌, ◌<◌, ◌≤◌, Bool, List, [], ◌∷◌, length, take, set, refl, sym, ap, arith, inl, inr, min, nat_eq, slice_index, map}
+use Rattle.std.proofs.Common.{◌≡◌, ◌∙◌, ℕ, ◌+◌, ◌-◌, ◌*◌, ◌^◌, ◌<◌, ◌≤◌, List, length, take, set, sym, ap, arith, inl, inr, min, nat_eq, slice_index}
 use Rattle.std.specs.List.{count_by}
 use Rattle.std.proofs.lemmas.Bool.{cases_eq, eq-eqb, ne_eqb}
 use Rattle.std.proofs.lemmas.List.{get_or-set_same, get_or-set_other}
-use Rattle.std.proofs.lemmas.List.Sums.{count_by_more_no, count_by_more_yes, sum_by-cons}
+use Rattle.std.proofs.lemmas.List.Sums.{count_by_more_no, count_by_more_yes}
 use Rattle.std.proofs.Math.Nat.{mul-add, mul-one}
-
--- the images of items counted
-pub counted : {X : Type 0} (p : ℕ → Bool) (f : X → ℕ) (xs : List X) → count_by p (map f xs) ≡ count_by (λ x. p (f x)) xs
-counted p f [] = refl
-counted p f (x ∷ xs) =
-    let one = sum_by-cons (λ y. cond (p y) 1 0) (f x) (map f xs) in
-    let other = sum_by-cons (λ y. cond (p (f y)) 1 0) x xs in
-    let rest = counted p f xs in
-    one ∙ ap (λ n. cond (p (f x)) 1 0 + n) rest ∙ sym other
 
 cap_twice : (o a b m : ℕ) → min (min (o + a) m + b) m ≡ min (o + (a + b)) m
 cap_twice o a b m = omega arith

@@ -47,12 +47,6 @@ mapped_rises position (x ∷ row) rise =
     (mapped_rises position row (λ i j d lt low. rise (suc i) (suc j) d (omega arith) (omega arith)))
 
 module _ (Relates : ℕ → ℕ → Type 0) where
-  pub none_below : AreBelow Relates 0 []
-  none_below = record {
-    each = λ position x. ((λ h. absurd (none_in (use_of position x) h)), (λ h. absurd (let lt = h.0 in omega arith)));
-    rise = λ i j d lt low. absurd (omega arith);
-  }
-
   -- where nothing stands below a bound
   pub nothing_below : (bound : ℕ) → ((position x : ℕ) → position < bound → Relates position x → ⊥) → AreBelow Relates bound []
   nothing_below bound none = record {
@@ -185,12 +179,6 @@ least_of_two P Q bound (Some y) (Some z) p q =
 -- ---- positions
 
 module _ (Has : ℕ → Type 0) where
-  pub no_places : ArePlacesBelow Has 0 []
-  no_places = record {
-    each = λ s. ((λ h. absurd (none_in (record { 0 = s }) h)), (λ h. absurd (let lt = h.0 in omega arith)));
-    rise = λ i j d lt low. absurd (omega arith);
-  }
-
   pub place_yes : (bound next : ℕ) (old new : List Pos) → next ≡ bound + 1 → Has bound → new ≡ old ++ record { 0 = bound } ∷ [] → ArePlacesBelow Has bound old → ArePlacesBelow Has next new
   place_yes bound next old new step has e below = subst (ArePlacesBelow Has next) (sym e) (record {
     each = λ s. (

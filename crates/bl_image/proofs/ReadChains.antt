@@ -49,16 +49,6 @@ pub ended : {S A : Type 0} (next : S → A → S) (B : S → A → Spellings) (s
 ended next B state [] t none h = (refl, h)
 ended next B state (y ∷ ys) t none h = absurd (omega arith)
 
-pub none_yet : {S A : Type 0} (next : S → A → S) (B : S → A → Spellings) (state : S) (s : List ℕ) → Begins (counted next B state 0) s [] s
-none_yet next B state s = record {
-  front = [];
-  whole = refl;
-  spelled = (refl, refl);
-  only = λ ys other more h e.
-      let end = ended next B state ys other h.0 h.1 in
-      (end.0, ap (λ t. t ++ more) (sym end.1) ∙ sym e);
-}
-
 -- what stands behind so many, where more of them are spelled
 pub record Goes {S A : Type 0} (next : S → A → S) (B : S → A → Spellings) (state : S) (xs : List A) (ys : List A) (m more : List ℕ) : Type 0 where
   pub here : A
@@ -113,9 +103,6 @@ pub record SoFar {A : Type 0} (B : A → Spellings) (start : List A) (s m : List
   pub list : all ≡ start ++ read
   pub joins : (zs : List A) → each B zs m → each B (read ++ zs) s
   pub splits : (ys : List A) → each B ys s → (zs : List A) × (ys ≡ read ++ zs) × each B zs m
-
-pub at_start : {A : Type 0} (B : A → Spellings) (start : List A) (s : List ℕ) → SoFar B start s s start
-at_start B start s = record { read = []; list = sym (append-nil start); joins = λ zs h. h; splits = λ ys h. (ys, refl, h) }
 
 -- what is left begins with a thing
 pub record First {A : Type 0} (B : A → Spellings) (zs : List A) (m : List ℕ) : Type 0 where

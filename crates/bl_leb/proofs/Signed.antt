@@ -92,10 +92,6 @@ pub not_empty : (width : ℕ) (bytes : List ℕ) (v : ℤ) → IsSigned width by
 not_empty width [] v p = absurd p
 not_empty width (n ∷ bytes) v p = omega arith
 
--- a number in one byte is as short as can be
-pub shortest_one : (width n : ℕ) (v : ℤ) → IsSignedByte width n v → IsShortest (IsSigned width) (n ∷ []) v
-shortest_one width n v h = record { spelled = h; least = λ other q. not_empty width other v q }
-
 -- where no byte spells the number alone, each spelling has one byte more than the higher bits need
 longer : (width : ℕ) (bytes other : List ℕ) (m v : ℤ) (n : ℕ) → IsShortest (IsSigned (width - 7)) bytes m → 128 ≤ n → n < 256 → v ≡ pos 128 *ℤ m +ℤ pos (n - 128) → (v <ℤ pos 64 → pos 0 ≤ℤ (v +ℤ pos 64) → ⊥) → IsSigned width other v → 1 + length bytes ≤ length other
 longer width bytes [] m v n short low high is large h = absurd h

@@ -9,7 +9,6 @@ use Rattle.bl_base.specs.declared.quantity.Quantity.TheVariants.{Functions, Loca
 use Rattle.bl_base.proofs.OptionLemmas.{either_none}
 use Rattle.bl_base.proofs.Lists.{length-filter_map}
 use Rattle.bl_labels.specs.Faults.{IsConsistent}
-use Rattle.bl_labels.specs.LabelledPlaces.{unlabelled}
 use Rattle.bl_labels.specs.declared.labels.Labels.{Labels}
 use Rattle.bl_wasm.specs.Limits.{Excess, above, first_excess, first_in, function_excess, local_count}
 use Rattle.bl_wasm.specs.Modules.{Spells}
@@ -26,7 +25,7 @@ use Rattle.bl_wasm.specs.declared.types.FuncType.{FuncType}
 use Rattle.bl_wasm.specs.declared.types.Limits.{Limits}
 use Rattle.bl_wasm.proofs.LimitLemmas.{above_none}
 use Rattle.bl_wasm.proofs.SpelledGlobals.{global_spelled, section_length, stands}
-use Rattle.bl_link.specs.Linkable.{AreParts, IsPart, NoSolidus}
+use Rattle.bl_link.specs.Linkable.{IsPart, NoSolidus}
 use Rattle.bl_link.specs.Links.{part_of}
 use Rattle.bl_link.specs.Stores.{AreApart}
 use Rattle.bl_link.specs.declared.part.Part.{Part}
@@ -109,14 +108,7 @@ labelled_part name bytes tree labels consistent named spelled few none =
       labels = consistent;
     }
 
-pub none_consistent : IsConsistent unlabelled
-none_consistent index h = absurd (cc h)
-
 -- ---- what is read
-
--- a letter is a name
-pub is_name : (letter : ℕ) → (letter ≡ 0x2F → ⊥) → NoSolidus (letter ∷ [])
-is_name letter other = All-cons (λ byte. byte ≡ 0x2F → ⊥) letter [] other (All-nil (λ byte. byte ≡ 0x2F → ⊥))
 
 -- a part is put together of a name that is copied, a module that is decoded and then validated, and labels
 pub read_part : (name letters bytes : List ℕ) (tree wasm : Module) (labels : Labels) → name ≡ letters → wasm ≡ tree → IsConsistent labels → NoSolidus letters
@@ -125,18 +117,9 @@ read_part name letters bytes tree wasm labels named same consistent is spelled f
     subst (λ n. IsPart (part_of n wasm labels)) (sym named)
     (subst (λ w. IsPart (part_of letters w labels)) (sym same) (labelled_part letters bytes tree labels consistent is spelled few none))
 
--- and of no labels
-pub read_bare : (name letters bytes : List ℕ) (tree wasm : Module) (labels : Labels) → name ≡ letters → wasm ≡ tree → labels ≡ unlabelled → NoSolidus letters
-    → Spells bytes tree → length bytes < 2 ^ 25 → first_excess tree ≡ None → IsPart (part_of name wasm labels)
-read_bare name letters bytes tree wasm labels named same bare is spelled few none =
-    read_part name letters bytes tree wasm labels named same (subst IsConsistent (sym bare) none_consistent) is spelled few none
-
 -- ---- one part by itself
 
 pub one_apart : (part : Part) → AreApart (λ (one : Part). one.name) (part ∷ [])
 one_apart part zero zero a b e f same = refl
 one_apart part zero (suc j) a b e f same = absurd (none-some b f)
 one_apart part (suc i) j a b e f same = absurd (none-some a e)
-
-pub one_part : (part : Part) → IsPart part → AreParts (part ∷ [])
-one_part part is = record { each = All-cons IsPart part [] is (All-nil IsPart); few = omega arith; distinct = one_apart part }

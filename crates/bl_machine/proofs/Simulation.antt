@@ -5,7 +5,7 @@ use Rattle.std.specs.Prelude.{unwrap_or}
 use Rattle.bl_base.specs.Runs.{HasStep, trapped as trapped_with}
 use Rattle.bl_base.specs.declared.names.ValueType.{ValueType}
 use Rattle.bl_base.specs.declared.trap.Trap.TheVariants as trap_kind
-use Rattle.bl_wasm.specs.Linked.{IsLinked, IsFunction, context, function_type}
+use Rattle.bl_wasm.specs.Linked.{IsLinked, context, function_type}
 use Rattle.bl_wasm.specs.Typing.{Open, Rule, Plain, expanded, integer, labels}
 use Rattle.bl_wasm.specs.declared.instruction.Instr.{Instr}
 use Rattle.bl_wasm.specs.declared.instruction.Instr.TheVariants.{Unreachable, Nop, Block, Loop, If, Else, End, Br, BrIf, BrTable, Return, Call, CallIndirect, Drop, Select, LocalGet, LocalSet, LocalTee, GlobalGet, GlobalSet, Load, Store, MemorySize, MemoryGrow, I32Const, I64Const, Integer}
@@ -20,7 +20,7 @@ use Rattle.bl_reduce.specs.Steps.{execute, frame_step, source_step}
 use Rattle.bl_reduce.specs.TypedConfigurations.{IsRest, IsRunning, IsTyped, AreLabels}
 use Rattle.bl_reduce.proofs.Places.{next_place, at_last}
 use Rattle.bl_reduce.proofs.Soundness.{progress as has_step}
-use Rattle.bl_base.proofs.Lists.{all_get, all_chosen}
+use Rattle.bl_base.proofs.Lists.{all_chosen}
 use Rattle.bl_machine.specs.Bodies.{body_of, prepared_of}
 use Rattle.bl_machine.specs.Jumps.{counts_of, counts_of_type, jumps_of}
 use Rattle.bl_machine.specs.Machines.{running as on, at_place}
@@ -129,9 +129,6 @@ module _ (tree : Tree) (linked : IsLinked tree) where
   module _ (results : List ValueType) (m : Machine) (state : State) (is : IsState tree m state) (typed : IsRunning tree results state) where
     abbrev items : List Instr
     items = state.frame.function.code.items
-
-    function_is : IsFunction tree state.frame.function
-    function_is = all_get (IsFunction tree) tree.functions state.frame.number state.frame.function linked.functions typed.frame_is.exists
 
     -- behind the next item
     behind_it : (item : Instr) (rest : List Instr) → state.frame.rest ≡ item ∷ rest → IsState tree (at_place (m.current.place + 1) m) (with_rest rest state)

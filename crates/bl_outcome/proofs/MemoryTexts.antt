@@ -68,9 +68,6 @@ module _ (old new : List ℕ) where
       heads : slice_index old i ∷ bytes_from old (i + 1) n ≡ slice_index new i ∷ bytes_from new (i + 1) n → slice_index old i ≡ slice_index new i
       heads e = ap (λ l. get_or l 0 0) e
 
-  pub same_end : (i n : ℕ) → n ≤ i → bytes_from old i n ≡ bytes_from new i n
-  same_end i n le = let none : n - i ≡ 0 = omega arith in ap (bytes_at old i) none ∙ sym (ap (bytes_at new i) none)
-
 -- the digits of bytes, byte by byte
 pub hex_begin : (text bytes : List ℕ) (from count : ℕ)
     → text ++ flat_map (λ place. hex_text (slice_index bytes place)) (range_with_len from (from + count - from)) ≡ text ++ flat_map hex_text (bytes_at bytes from count)

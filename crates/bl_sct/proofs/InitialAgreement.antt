@@ -80,9 +80,6 @@ module _ (program : Program) (facts : IsProgram program) (rules : IsWellFormed p
 
   -- ---- the arguments
 
-  defined : FunctionDef
-  defined = agree.one_fits.defined
-
   many : (start : Start) (fits : IsStart program function start) → length fits.defined.params ≡ length start.args
   many start fits =
       sym (length-map fits.defined.params (λ (p : ParamDef). p.kind)) ∙ zip_length ArgumentFits (map (λ (p : ParamDef). p.kind) fits.defined.params) start.args fits.fits.arguments

@@ -4,14 +4,10 @@ use Rattle.std.specs.Prelude.{IsTrue}
 use Rattle.std.specs.List.{Contains}
 use Rattle.std.proofs.lemmas.Bool.{false≢true}
 use Rattle.std.proofs.lemmas.List.Elements.{Contains-push_cases, Contains-append_left, Contains-push}
-use Rattle.bl_base.proofs.Members.{none_in}
 use Rattle.bl_graph.specs.Graphs.{use_of}
 use Rattle.bl_graph.specs.declared.facts.Use.{Use}
 use Rattle.bl_graph.specs.Arcs.{is_in}
 use Rattle.bl_transient.specs.Reachability.{FirstSink, IsLower}
-
-pub first_none : (marks : List Bool) → FirstSink marks [] None
-first_none marks position x h = absurd (none_in (use_of position x) h)
 
 module _ (marks : List Bool) (sinks : List Use) (use_ : Use) where
   no_more : (position x : ℕ) → is_in marks use_.var.0 ≡ false → IsTrue (is_in marks x) → use_ ≡ use_of position x → ⊥

@@ -68,10 +68,6 @@ plain_rule c item outer inner from to = elim item as (λ i. IsPlain i → Rule c
 
 -- ---- a construct is opened
 
-abbrev Enters : Places → Construct → Places → Type 0
-Enters S0 k S2 = (open_ones : List Open) (s : List WasmType) →
-    S2 open_ones s ↔ ((outer : List Open) × (lower : List WasmType) × (s ≡ k.params.now) × (open_ones ≡ opened (nesting_kind k.kind) (construct_type k) lower ∷ outer) × S0 outer lower)
-
 pub entered : (frames : List Frame) (frame : Frame) (S0 S2 : Sets) → ((s : List WasmType) → S2 s ↔ (s ≡ frame.construct.params.now))
     → ((s : List WasmType) → MayStand frame.below s ↔ S0 s)
     → (open_ones : List Open) (s : List WasmType) → (S2 s × AreOpen (reverse (frames ++ frame ∷ [])) open_ones)

@@ -16,7 +16,7 @@ use Rattle.bl_lower.proofs.FunctionPlaces.{room_of}
 use Rattle.bl_lower.proofs.TreeLayout.{entry_is, first_is, params_number, results_number, statics_are}
 use Rattle.bl_lower.proofs.WellFormed.{facts}
 use Rattle.bl_reduce.specs.Runnable.{runnable}
-use Rattle.bl_iface.specs.JoinedProgram.{HasSameTypes, Renaming, client_numbers, client_read, client_shift, goes, library_numbers, library_shift, moved_var, owner}
+use Rattle.bl_iface.specs.JoinedProgram.{HasSameTypes, client_numbers, client_read, client_shift, goes, library_numbers, library_shift, moved_var, owner}
 use Rattle.bl_iface.specs.declared.iface.Iface.{Iface}
 use Rattle.bl_iface.proofs.JoinedReads.{owner_is, plain_read, read_cases, result_by}
 use Rattle.bl_iface.proofs.ShiftedPart.{moved_above, moved_below, moved_cases, moved_own}

@@ -1,4 +1,4 @@
-use Rattle.std.proofs.Common.{ℕ, false, ap, get_or, sym, subst, ◌∙◌, not, ◌&&◌, ◌+◌}
+use Rattle.std.proofs.Common.{false, ap, get_or, sym, subst, ◌∙◌, not, ◌+◌}
 use Rattle.std.proofs.lemmas.Bool.{and_from, and_left, and_right, not_from_false, not_from_true}
 use Rattle.std.proofs.lemmas.Option.{unwrap_or-slice_get}
 use Rattle.bl_base.proofs.PositionSets.{HoldsBelow, below_none, below_no, below_yes}
