@@ -101,12 +101,9 @@ abbrev pub constant_time_text : CtVerdict → List ℕ
 constant_time_text verdict = chain_line (chain_in verdict)
 
 -- the report: the counts, a line for each protect, and the line on constant time
-abbrev pub report_of : Program → Certificate → Option SecretChain → List ℕ
-report_of program certificate chain =
-    counts_text program ++ flat_map (protect_text program certificate.paths) (protects program) ++ chain_line chain
-
 abbrev pub report_text : Program → Certificate → CtVerdict → List ℕ
-report_text program certificate verdict = report_of program certificate (chain_in verdict)
+report_text program certificate verdict =
+    counts_text program ++ flat_map (protect_text program certificate.paths) (protects program) ++ constant_time_text verdict
 
 -- the line of a protect, with the site's weight alone
 abbrev pub bare_protect_line : ℕ → ℕ → List ℕ
@@ -120,8 +117,5 @@ abbrev pub protects_text : Program → List ℕ
 protects_text program = counts_text program ++ flat_map (bare_protect_text program) (protects program)
 
 -- the report without its lines of protects
-abbrev pub summary_of : Program → Option SecretChain → List ℕ
-summary_of program chain = counts_text program ++ chain_line chain
-
 abbrev pub summary_text : Program → CtVerdict → List ℕ
-summary_text program verdict = summary_of program (chain_in verdict)
+summary_text program verdict = counts_text program ++ constant_time_text verdict

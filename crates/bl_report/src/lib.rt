@@ -9,5 +9,5 @@ mod sites;
 mod text;
 mod verdicts;
 
-pub use text::{protects_report, report, report_of, summary, summary_of};
+pub use text::{protects_report, report, summary};
 pub use verdicts::{verdicts_text, verdicts_text_of};

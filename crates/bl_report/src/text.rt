@@ -1,9 +1,9 @@
 //! The report.
-ghost use Rattle.std.specs.Prelude.{◌≡◌, IfOk, option_map};
+ghost use Rattle.std.specs.Prelude.{◌≡◌, IfOk};
 ghost use Rattle.bl_cmd.specs.Sites.{is_protected, weight_of};
 ghost use Rattle.bl_graph.specs.Certificates.{Certifies};
-ghost use Rattle.bl_ct.specs.Verdicts.{FindsChain, Judges};
-ghost use Rattle.bl_report.specs.Reports.{counts_text, protects, protects_text, report_of, report_text, site_count, summary_of, summary_text};
+ghost use Rattle.bl_ct.specs.Verdicts.{Judges};
+ghost use Rattle.bl_report.specs.Reports.{counts_text, protects, protects_text, report_text, site_count, summary_text};
 
 use crate::lines::{push_bare_protects, push_protects};
 use crate::secrets::push_constant_time;
@@ -11,7 +11,7 @@ use crate::sites::{Sites, sites_of};
 use bl_base::{NoMemory, Text};
 use bl_cmd::{ProgramParts, WellFormed};
 use bl_ct::CtVerdict;
-use bl_graph::{Certificate, SecretChain};
+use bl_graph::Certificate;
 use std::alloc::Global;
 
 /// The report of a program whose protects a certificate shows to be the least, with the verdict on constant time: how many
@@ -28,20 +28,6 @@ pub fn report(
     requires judged { Judges program.now verdict.now }
     ensures { IfOk result (λ text. text ≡ report_text program.now certificate.now verdict.now) }
 {
-    report_of(alloc, program, certificate, verdict.chain())
-}
-
-/// The same by a secret chain, or by none where the program is constant-time.
-pub fn report_of(
-    alloc: Global,
-    program: &WellFormed,
-    certificate: &Certificate,
-    chain: Option<&SecretChain>,
-) -> Result<Text, NoMemory>
-    requires certified { Certifies program.now certificate.now }
-    requires judged { FindsChain program.now (option_map (λ chain. chain.now) chain) }
-    ensures { IfOk result (λ text. text ≡ report_of program.now certificate.now (option_map (λ chain. chain.now) chain.entry)) }
-{
     let parts = program.program().parts();
     let sites = sites_of(alloc, parts)?;
     let mut text = counts(alloc, parts, &sites, certificate.weight)?;
@@ -52,7 +38,7 @@ pub fn report_of(
         certificate.paths.as_slice(),
         &sites.protects,
     )?;
-    push_constant_time(alloc, &mut text, chain)?;
+    push_constant_time(alloc, &mut text, verdict.chain())?;
     Ok(Text::of(text))
 }
 
@@ -68,24 +54,10 @@ pub fn summary(
     requires judged { Judges program.now verdict.now }
     ensures { IfOk result (λ text. text ≡ summary_text program.now verdict.now) }
 {
-    summary_of(alloc, program, certificate, verdict.chain())
-}
-
-/// The same by a secret chain, or by none where the program is constant-time.
-pub fn summary_of(
-    alloc: Global,
-    program: &WellFormed,
-    certificate: &Certificate,
-    chain: Option<&SecretChain>,
-) -> Result<Text, NoMemory>
-    requires certified { Certifies program.now certificate.now }
-    requires judged { FindsChain program.now (option_map (λ chain. chain.now) chain) }
-    ensures { IfOk result (λ text. text ≡ summary_of program.now (option_map (λ chain. chain.now) chain.entry)) }
-{
     let parts = program.program().parts();
     let sites = sites_of(alloc, parts)?;
     let mut text = counts(alloc, parts, &sites, certificate.weight)?;
-    push_constant_time(alloc, &mut text, chain)?;
+    push_constant_time(alloc, &mut text, verdict.chain())?;
     Ok(Text::of(text))
 }
 

@@ -3,7 +3,7 @@ use Rattle.std.specs.List.{All}
 use Rattle.bl_cmd.specs.Sites.{IsSite}
 use Rattle.bl_report.specs.Reports.{protects}
 use Rattle.bl_report.proofs.ProtectedSites.{protects_are_sites}
-use Rattle.bl_report.proofs.text.report_of.Goals as goal
+use Rattle.bl_report.proofs.text.report.Goals as goal
 
 pub push_protects-requires : goal.push_protects-requires
 push_protects-requires c =
