@@ -2,12 +2,14 @@
 use Rattle.std.proofs.Common.{◌≡◌, ◌∙◌, refl, sym, ap, subst, ℕ, ◌+◌, List, [], ◌∷◌, ◌++◌, length, map, true, false, Bool, Option, Some, None, Ok, inl, inr, arith, length-append}
 use Rattle.std.specs.Prelude.{if◌then◌else◌, nat_eq}
 use Rattle.std.specs.List.{All, AllZip, enumerate_from, list_any, range_with_len}
+use Rattle.std.specs.Option.{option_or}
 use Rattle.std.specs.Str.{bytes_eq}
 use Rattle.std.proofs.lemmas.List.{length-map}
 use Rattle.std.proofs.lemmas.List.Elements.{All-head, All-tail}
 use Rattle.std.proofs.lemmas.List.FromFn.{length-range_with_len}
 use Rattle.std.proofs.lemmas.Option.{none-some, same_Some}
 use Rattle.bl_base.proofs.Lists.{zip_length}
+use Rattle.bl_wasm.specs.Exports.{value_named}
 use Rattle.bl_wasm.specs.Validity.{function_of, table_of, memory_of, global_of, functions_of, globals_of, tables_of, memories_of, imported}
 use Rattle.bl_wasm.specs.declared.module.Import.{Import}
 use Rattle.bl_wasm.specs.declared.module.ImportKind.{ImportKind}
@@ -15,36 +17,18 @@ use Rattle.bl_wasm.specs.declared.module.ImportKind.TheVariants as import
 use Rattle.bl_wasm.specs.declared.module.ExportKind.{ExportKind}
 use Rattle.bl_wasm.specs.declared.module.ExportKind.TheVariants as export
 use Rattle.bl_wasm.specs.declared.module.Module.{Module}
+use Rattle.bl_wasm.proofs.NamedLemmas.{value_append}
 use Rattle.bl_apart.specs.BesideStores.{EntryAlike, ExportsBeside, IsGiven, IsKnown, Setting, StoresBeside, ValueAlike}
-use Rattle.bl_link.specs.ExportNames.{qualified, value_named}
+use Rattle.bl_link.specs.ExportNames.{Values, qualified}
 use Rattle.bl_link.specs.ImportMatches.{given, given_of, matches, named}
 use Rattle.bl_link.specs.IndexSpaces.{all_ok, of_kind, on_ok, same_kind, spaces_of}
 use Rattle.bl_link.specs.declared.error.LinkError.TheVariants.{Mismatch}
 use Rattle.bl_apart.specs.LinkedTypes.{External, Store}
-use Rattle.bl_link.specs.NamedPairs.{Values}
 use Rattle.bl_link.proofs.ImportMatchLemmas.{Suits}
 use Rattle.bl_link.proofs.LinkedTrees.{if_ok, ok_same, on_ok_is}
 use Rattle.bl_link.proofs.NumberedLists.{Both, zip_filtered}
 
 -- ---- values of names
-
-found_first : (name : List ℕ) (xs ys : Values) (v : External) → value_named name xs ≡ Some v → value_named name (xs ++ ys) ≡ Some v
-found_first name [] ys v e = absurd (none-some v e)
-found_first name (p ∷ xs) ys v e = by (bytes_eq name p.0) e (λ e. found_first name xs ys v e)
-  where
-    by : (test : Bool) → (if test then Some p.1 else value_named name xs) ≡ Some v → (value_named name xs ≡ Some v → value_named name (xs ++ ys) ≡ Some v)
-        → (if test then Some p.1 else value_named name (xs ++ ys)) ≡ Some v
-    by true e later = e
-    by false e later = later e
-
-found_later : (name : List ℕ) (xs ys : Values) → value_named name xs ≡ None → value_named name (xs ++ ys) ≡ value_named name ys
-found_later name [] ys e = refl
-found_later name (p ∷ xs) ys e = by (bytes_eq name p.0) e (λ e. found_later name xs ys e)
-  where
-    by : (test : Bool) → (if test then Some p.1 else value_named name xs) ≡ None → (value_named name xs ≡ None → value_named name (xs ++ ys) ≡ value_named name ys)
-        → (if test then Some p.1 else value_named name (xs ++ ys)) ≡ value_named name ys
-    by true e later = absurd (cc e)
-    by false e later = later e
 
 module _ (s : Setting) where
   found_alike : (name : List ℕ) (xs ys : Values) → AllZip (EntryAlike s) xs ys → (a b : External) → value_named name xs ≡ Some a → value_named name ys ≡ Some b → ValueAlike s a b
@@ -61,13 +45,15 @@ module _ (s : Setting) where
   known_alike : (name : List ℕ) (stub here library there : Values) → ExportsBeside s stub here library there → IsKnown s stub library name → (a b : External)
       → value_named name here ≡ Some a → value_named name there ≡ Some b → ValueAlike s a b
   known_alike name stub here library there beside known a b e f =
-      let here_is : value_named name (stub ++ beside.ours) ≡ Some a = ap (value_named name) (sym beside.here_is) ∙ e in
-      let there_is : value_named name (library ++ beside.theirs) ≡ Some b = ap (value_named name) (sym beside.there_is) ∙ f in
+      let here_is : (o : Option External) → value_named name stub ≡ o → option_or o (value_named name beside.ours) ≡ Some a =
+      λ o is. sym (ap (λ found. option_or found (value_named name beside.ours)) is) ∙ sym (value_append name stub beside.ours) ∙ ap (value_named name) (sym beside.here_is) ∙ e in
+      let there_is : (o : Option External) → value_named name library ≡ o → option_or o (value_named name beside.theirs) ≡ Some b =
+      λ o is. sym (ap (λ found. option_or found (value_named name beside.theirs)) is) ∙ sym (value_append name library beside.theirs) ∙ ap (value_named name) (sym beside.there_is) ∙ f in
       elim known [
-        | inl none ↦ found_alike name beside.ours beside.theirs beside.alike a b (sym (found_later name stub beside.ours none.0) ∙ here_is) (sym (found_later name library beside.theirs none.1) ∙ there_is)
+        | inl none ↦ found_alike name beside.ours beside.theirs beside.alike a b (here_is None none.0) (there_is None none.1)
         | inr some ↦
-            subst (ValueAlike s a) (same_Some some.1 b (sym (found_first name library beside.theirs some.1 some.3) ∙ there_is))
-            (subst (λ x. ValueAlike s x some.1) (same_Some some.0 a (sym (found_first name stub beside.ours some.0 some.2) ∙ here_is)) some.4)
+            subst (ValueAlike s a) (same_Some some.1 b (there_is (Some some.1) some.3))
+            (subst (λ x. ValueAlike s x some.1) (same_Some some.0 a (here_is (Some some.0) some.2)) some.4)
       ]
 
   given_is : (store : Store) (wasm : Module) (part : ℕ) (wanted : ℕ × Import) (o : Option External) (v : External) → given_of store wasm part wanted o ≡ Ok v → o ≡ Some v

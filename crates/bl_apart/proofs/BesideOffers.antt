@@ -1,20 +1,20 @@
 -- What trees export is what their stores export.
-use Rattle.std.proofs.Common.{◌≡◌, ◌∙◌, refl, sym, ap, ap₂, subst, ℕ, zero, suc, ◌+◌, List, [], ◌∷◌, ◌++◌, length, map, filter_map, true, false, Bool, Option, Some, None, slice_get, Ok, inl, inr, arith}
-use Rattle.std.specs.Prelude.{fold, nat_le, if◌then◌else◌}
+use Rattle.std.proofs.Common.{◌≡◌, ◌∙◌, refl, sym, ap, ap₂, subst, ℕ, ◌+◌, List, [], ◌∷◌, ◌++◌, length, map, filter_map, Option, Some, None, slice_get, Ok, inl, inr, arith}
+use Rattle.std.specs.Prelude.{fold, nat_le}
 use Rattle.std.specs.List.{All, Contains, cons_option, enumerate_from}
-use Rattle.std.specs.Str.{bytes_eq}
 use Rattle.std.proofs.lemmas.List.Elements.{All-weaker, at_from_Contains, filter_map-append}
 use Rattle.std.proofs.lemmas.Option.{slice_get-get_or, same_Some}
-use Rattle.std.proofs.lemmas.Slice.Eq.{bytes_eq-Decides}
 use Rattle.bl_base.proofs.Lists.{all_get}
 use Rattle.bl_base.specs.Quantity.{limit_of}
 use Rattle.bl_base.specs.declared.quantity.Quantity.TheVariants.{Reserve}
+use Rattle.bl_wasm.specs.Exports.{value_named}
 use Rattle.bl_wasm.specs.declared.module.ExportKind.{ExportKind}
 use Rattle.bl_wasm.specs.declared.module.ExportKind.TheVariants as export
 use Rattle.bl_wasm.specs.declared.module.Import.{Import}
 use Rattle.bl_wasm.specs.declared.linked.Tree.{Tree}
+use Rattle.bl_wasm.proofs.NamedLemmas.{value_found, value_none}
 use Rattle.bl_apart.specs.BesideStores.{AreGiven, Exports, IsGiven, IsOffered, NumberAlike, Setting, ValueAlike}
-use Rattle.bl_link.specs.ExportNames.{qualified, value_named}
+use Rattle.bl_link.specs.ExportNames.{qualified}
 use Rattle.bl_link.specs.ImportMatches.{all_given as values_given}
 use Rattle.bl_link.specs.IndexSpaces.{spaces_of}
 use Rattle.bl_link.specs.declared.part.Part.{Part}
@@ -22,8 +22,7 @@ use Rattle.bl_link.specs.declared.error.LinkError.TheVariants.{Limit}
 use Rattle.bl_apart.specs.LinkedTypes.{External, Store}
 use Rattle.bl_link.specs.Linkable.{AreParts, IsPart, IsSound}
 use Rattle.bl_link.specs.Links.{exported, links, nothing, of_function, pair, reserves, with_given, with_next, within_reserve}
-use Rattle.bl_link.specs.NamedPairs.{Values}
-use Rattle.bl_link.specs.Stores.{AreApart, IsStore, ValueOfPart}
+use Rattle.bl_link.specs.Stores.{IsStore, ValueOfPart}
 use Rattle.bl_apart.proofs.BesideLinks.{made, split_next}
 use Rattle.bl_link.proofs.LinkedTrees.{all_kept, if_ok, ok_same, on_ok_is}
 use Rattle.bl_link.proofs.NameLemmas.{before_solidus, came}
@@ -52,26 +51,6 @@ pairs_all (part ∷ parts) n store last h e =
     pairs_all parts (n + 1) s.0 last (pairs_next store s.0 part n h s.1) s.2
 
 -- ---- values of names
-
-value_found : (xs : Values) (i : ℕ) (v : List ℕ × External) → AreApart (λ (value : List ℕ × External). value.0) xs → slice_get xs i ≡ Some v → value_named v.0 xs ≡ Some v.1
-value_found [] i v apart e = absurd (cc e)
-value_found (p ∷ xs) zero v apart e =
-    let same : p ≡ v = same_Some p v e in
-    subst (λ (p : List ℕ × External). (if bytes_eq v.0 p.0 then Some p.1 else value_named v.0 xs) ≡ Some v.1) (sym same)
-    (ap (λ test. if test then Some v.1 else value_named v.0 xs) ((bytes_eq-Decides v.0 v.0).1 refl))
-value_found (p ∷ xs) (suc i) v apart e = by (bytes_eq v.0 p.0) refl (value_found xs i v (λ k l a b x y same. let h = apart (suc k) (suc l) a b x y same in omega (arith, h)) e)
-  where
-    by : (test : Bool) → bytes_eq v.0 p.0 ≡ test → value_named v.0 xs ≡ Some v.1 → (if test then Some p.1 else value_named v.0 xs) ≡ Some v.1
-    by true h later = let clash = apart zero (suc i) p v refl e (sym ((bytes_eq-Decides v.0 p.0).0 h)) in absurd (omega (arith, clash))
-    by false h later = later
-
-value_none : (name : List ℕ) (xs : Values) → ((i : ℕ) (v : List ℕ × External) → slice_get xs i ≡ Some v → name ≡ v.0 → ⊥) → value_named name xs ≡ None
-value_none name [] h = refl
-value_none name (p ∷ xs) h = by (bytes_eq name p.0) refl (value_none name xs (λ i v e. h (suc i) v e))
-  where
-    by : (test : Bool) → bytes_eq name p.0 ≡ test → value_named name xs ≡ None → (if test then Some p.1 else value_named name xs) ≡ None
-    by true e later = absurd (h zero p refl ((bytes_eq-Decides name p.0).0 e))
-    by false e later = later
 
 pub pair_is : (kind : ExportKind) (own : List ℕ × ℕ) (one : List ℕ × ℕ) → of_function kind own ≡ Some one → (kind ≡ export.Function) × (own ≡ one)
 pair_is export.Function own one e = (refl, same_Some own one e)
@@ -108,7 +87,7 @@ own_value done users store user rest are is contains = value_none (qualified use
     let here : slice_get (done ++ users) (length done + u.0) ≡ Some user = get_right done users u.0 ∙ slice_get-get_or users u.0 user u.1 ∙ ap (λ (q : Part). Some q) (u.2 user) in
     let one = all_get IsPart (done ++ users) p.0 part are.each there in
     let other = all_get IsPart (done ++ users) (length done + u.0) user are.each here in
-    let names : part.name ≡ user.name = before_solidus part.name user.name of_part.2 rest one.name other.name (sym of_part.3 ∙ sym same) in
+    let names : part.name ≡ user.name = before_solidus part.name user.name of_part.2 rest one.name other.name (sym of_part.3 ∙ same) in
     let clash = are.distinct p.0 (length done + u.0) part user there here names in
     omega (arith, clash, p.1))
 

@@ -13,7 +13,7 @@ use Rattle.bl_wasm.specs.declared.linked.Tree.{Tree}
 use Rattle.bl_apart.specs.LinkedTypes.{External, Store}
 use Rattle.bl_link.specs.Links.{nothing, of_function, pair, with_next}
 use Rattle.bl_link.specs.Stores.{OfPart}
-use Rattle.bl_link.specs.NamedPairs.{Values}
+use Rattle.bl_link.specs.ExportNames.{Values}
 use Rattle.bl_link.specs.declared.part.Part.{Part}
 use Rattle.bl_link.proofs.NameLemmas.{came}
 use Rattle.bl_cmd.proofs.AppendLemmas.{get_left, get_right}

@@ -6,6 +6,7 @@ use Rattle.std.proofs.lemmas.List.Elements.{All-append, All-weaker}
 use Rattle.bl_base.proofs.Lists.{all_get}
 use Rattle.bl_wasm.specs.declared.module.Import.{Import}
 use Rattle.bl_wasm.specs.declared.linked.Tree.{Tree}
+use Rattle.bl_wasm.proofs.NamedLemmas.{stands_at}
 use Rattle.bl_reduce.specs.Runnable.{IsRunnable, runnable}
 use Rattle.bl_link.specs.ExportNames.{qualified}
 use Rattle.bl_link.specs.Linkable.{IsSound}
@@ -18,7 +19,7 @@ use Rattle.bl_apart.specs.BesideStores.{Agree, AreGiven, IsOffered}
 use Rattle.bl_apart.specs.LinkedApart.{AreLinked, AreUsers, IsGiven, setting, whole_numbers}
 use Rattle.bl_apart.proofs.BesideLinks.{users_beside}
 use Rattle.bl_apart.proofs.BesideOffers.{all_given}
-use Rattle.bl_apart.proofs.UserExports.{library_linked, stands_at, stays}
+use Rattle.bl_apart.proofs.UserExports.{library_linked, stays}
 use Rattle.bl_apart.proofs.WholeNumbers.{agrees, low, renames}
 
 module _ (iface : Iface) (stubs libraries users : List Part) (stub library client whole : Tree) (are : AreLinked stubs libraries users stub library client whole)

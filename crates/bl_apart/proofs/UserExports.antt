@@ -2,17 +2,15 @@
 use Rattle.std.proofs.Common.{◌≡◌, ◌∙◌, refl, sym, ap, subst, ℕ, zero, suc, ◌+◌, ◌<◌, ◌≤◌, List, [], ◌∷◌, ◌++◌, length, filter_map, true, false, Bool, Option, Some, None, slice_get, Ok, ◌⊎◌, inl, inr, arith, append-nil}
 use Rattle.std.specs.Prelude.{fold, if◌then◌else◌, nat_eq, option_map, unwrap_or}
 use Rattle.std.specs.List.{All, enumerate_from}
-use Rattle.std.specs.Str.{bytes_eq}
 use Rattle.std.proofs.lemmas.List.{append_assoc}
 use Rattle.std.proofs.lemmas.List.Elements.{All-append, All-weaker, Contains-append_right}
 use Rattle.std.proofs.lemmas.Map.Views.{exact_unsigned_eq}
-use Rattle.std.proofs.lemmas.Option.{none-some, same_Some}
-use Rattle.std.proofs.lemmas.Slice.Eq.{bytes_eq-Decides}
+use Rattle.std.proofs.lemmas.Option.{none-some}
 use Rattle.bl_base.proofs.Lists.{all_from, all_get}
-use Rattle.bl_wasm.specs.Exports.{Pairs, number_of}
+use Rattle.bl_wasm.specs.Exports.{Pairs, value_named}
 use Rattle.bl_wasm.specs.Linked.{IsLinked}
 use Rattle.bl_wasm.specs.declared.linked.Tree.{Tree}
-use Rattle.bl_link.specs.ExportNames.{value_named}
+use Rattle.bl_wasm.proofs.NamedLemmas.{stands_at}
 use Rattle.bl_link.specs.ImportMatches.{all_given}
 use Rattle.bl_link.specs.IndexSpaces.{spaces_of}
 use Rattle.bl_link.specs.declared.part.Part.{Part}
@@ -39,16 +37,6 @@ append_cases (y ∷ xs) ys (suc i) x e = elim (append_cases xs ys i x e) [
   | inl h ↦ inl h
   | inr h ↦ let same = h.1 in inr (h.0, omega arith, h.2)
 ]
-
-pub stands_at : (exports : Pairs) (name : List ℕ) (function : ℕ) → number_of name exports ≡ Some function → (i : ℕ) × (slice_get exports i ≡ Some (name, function))
-stands_at [] name function e = absurd (none-some function e)
-stands_at (pair ∷ exports) name function e = by (bytes_eq name pair.0) refl e (λ e. stands_at exports name function e)
-  where
-    by : (test : Bool) → bytes_eq name pair.0 ≡ test → (if test then Some pair.1 else number_of name exports) ≡ Some function
-        → (number_of name exports ≡ Some function → (i : ℕ) × (slice_get exports i ≡ Some (name, function))) → (i : ℕ) × (slice_get (pair ∷ exports) i ≡ Some (name, function))
-    by true h e later =
-        (0, subst (λ (n : List ℕ). Some pair ≡ Some (n, function)) (sym ((bytes_eq-Decides name pair.0).0 h)) (ap (λ (f : ℕ). Some (pair.0, f)) (same_Some pair.1 function e)))
-    by false h e later = let rest = later e in (suc rest.0, rest.1)
 
 -- ---- names of what is linked behind others
 
@@ -124,26 +112,26 @@ module _ (stubs libraries users : List Part) (stub library client whole : Tree) 
 
   -- no function behind the stub's goes to the library
   module _ (function : ℕ) (behind : length stub.functions ≤ function) where
-    none_named : (name : List ℕ) → number_of name client.exports ≡ Some function → number_of name library.exports ≡ None
-    none_named name e = by (number_of name library.exports) refl
+    none_named : (name : List ℕ) → value_named name client.exports ≡ Some function → value_named name library.exports ≡ None
+    none_named name e = by (value_named name library.exports) refl
       where
-        by : (o : Option ℕ) → number_of name library.exports ≡ o → number_of name library.exports ≡ None
+        by : (o : Option ℕ) → value_named name library.exports ≡ o → value_named name library.exports ≡ None
         by None h = h
-        by (Some callee) h = elim (whose name function (stands_at client.exports name function e)) as (λ _. number_of name library.exports ≡ None) [
+        by (Some callee) h = elim (whose name function (stands_at client.exports name function e)) as (λ _. value_named name library.exports ≡ None) [
           | inl ours ↦ let lt = all_get (λ (pair : List ℕ × ℕ). pair.1 < length stub.functions) stub.exports ours.0 (name, function) stub_linked.exports ours.1 in absurd (omega arith)
           | inr of ↦ absurd (not_both name callee of (stands_at library.exports name callee h))
         ]
 
     pub stays : (functions : List FnIface) → goes_among functions client library function ≡ None
     stays [] = refl
-    stays (one ∷ others) = by (number_of one.name client.exports) refl (stays others)
+    stays (one ∷ others) = by (value_named one.name client.exports) refl (stays others)
       where
-        by : (o : Option ℕ) → number_of one.name client.exports ≡ o → goes_among others client library function ≡ None → goes_among (one ∷ others) client library function ≡ None
-        by None e later = ap (λ o. if unwrap_or (option_map (nat_eq function) o) false then number_of one.name library.exports else goes_among others client library function) e ∙ later
+        by : (o : Option ℕ) → value_named one.name client.exports ≡ o → goes_among others client library function ≡ None → goes_among (one ∷ others) client library function ≡ None
+        by None e later = ap (λ o. if unwrap_or (option_map (nat_eq function) o) false then value_named one.name library.exports else goes_among others client library function) e ∙ later
         by (Some other) e later =
-            ap (λ o. if unwrap_or (option_map (nat_eq function) o) false then number_of one.name library.exports else goes_among others client library function) e
+            ap (λ o. if unwrap_or (option_map (nat_eq function) o) false then value_named one.name library.exports else goes_among others client library function) e
             ∙ same (nat_eq function other) refl
           where
-            same : (test : Bool) → nat_eq function other ≡ test → (if test then number_of one.name library.exports else goes_among others client library function) ≡ None
+            same : (test : Bool) → nat_eq function other ≡ test → (if test then value_named one.name library.exports else goes_among others client library function) ≡ None
             same true h = none_named one.name (e ∙ ap (λ (f : ℕ). Some f) (sym (exact_unsigned_eq function other h)))
             same false h = later

@@ -1,6 +1,7 @@
 -- The same parts linked behind different others.
 use Rattle.std.specs.Prelude.{◌≡◌, ℕ, ◌+◌, List, ◌++◌, length, slice_get, Some, None, Ok, fold, ◌⊎◌}
 use Rattle.std.specs.List.{All, AllZip, Contains, enumerate_from}
+use Rattle.bl_wasm.specs.Exports.{value_named}
 use Rattle.bl_wasm.specs.declared.module.ExportKind.{ExportKind}
 use Rattle.bl_wasm.specs.declared.module.ExportKind.TheVariants as export
 use Rattle.bl_wasm.specs.declared.linked.Tree.{Tree}
@@ -9,8 +10,7 @@ use Rattle.bl_rename.specs.Renamings.{Numbers}
 use Rattle.bl_link.specs.declared.part.Part.{Part}
 use Rattle.bl_apart.specs.LinkedTypes.{External, Spaces, Store}
 use Rattle.bl_link.specs.Links.{nothing, with_next}
-use Rattle.bl_link.specs.ExportNames.{qualified, value_named}
-use Rattle.bl_link.specs.NamedPairs.{Values}
+use Rattle.bl_link.specs.ExportNames.{Values, qualified}
 use Rattle.bl_wasm.specs.declared.module.Import.{Import}
 
 -- two trees that others stand behind, and two numberings

@@ -2,7 +2,7 @@
 -- 1.0, section 4.5.4).
 use Rattle.std.specs.Prelude.{◌≡◌, ℕ, ◌+◌, ◌-◌, ◌<◌, nat_lt, if◌then◌else◌, List, ◌++◌, length, Some, Ok, ◌⊎◌}
 use Rattle.std.specs.List.{All, Contains}
-use Rattle.bl_wasm.specs.Exports.{number_of}
+use Rattle.bl_wasm.specs.Exports.{value_named}
 use Rattle.bl_wasm.specs.declared.module.Import.{Import}
 use Rattle.bl_wasm.specs.declared.linked.Tree.{Tree}
 use Rattle.bl_link.specs.ExportNames.{qualified}
@@ -59,8 +59,8 @@ pub record AreLinked (stubs libraries users : List Part) (stub library client wh
 pub record IsRedirected (iface : Iface) (stub client library : Tree) (name : List ℕ) : Type 0 where
   pub function : ℕ
   pub callee : ℕ
-  pub stands : number_of name stub.exports ≡ Some function
-  pub exported : number_of name library.exports ≡ Some callee
+  pub stands : value_named name stub.exports ≡ Some function
+  pub exported : value_named name library.exports ≡ Some callee
   pub goes : goes_among iface.functions client library function ≡ Some callee
 
 -- an import names a user, or a function of the stub, which goes to the library's of that name

@@ -8,7 +8,7 @@ use Rattle.bl_base.specs.Runs.{MemoryState, Outcome, returned, trapped}
 use Rattle.bl_base.specs.declared.names.ValueType.{ValueType}
 use Rattle.bl_base.specs.declared.start.Start.{Start}
 use Rattle.bl_cmd.specs.declared.definitions.ProgramParts.{ProgramParts as Program}
-use Rattle.bl_wasm.specs.Exports.{Pairs, number_of}
+use Rattle.bl_wasm.specs.Exports.{Pairs, value_named}
 use Rattle.bl_wasm.specs.declared.linked.Signature.{Signature}
 use Rattle.bl_wasm.specs.declared.linked.Tree.{Tree}
 use Rattle.bl_reduce.specs.Outcomes.{first_store, source}
@@ -39,7 +39,7 @@ use Rattle.bl_app.proofs.RunLemmas.{entering_lawful}
 
 -- ---- exports
 
-pub same_exports : (name : List ℕ) (pairs : Pairs) → function_named name (map export_def pairs) ≡ number_of name pairs
+pub same_exports : (name : List ℕ) (pairs : Pairs) → function_named name (map export_def pairs) ≡ value_named name pairs
 same_exports name [] = refl
 same_exports name (pair ∷ pairs) = ap (cond (bytes_eq name pair.0) (Some pair.1)) (same_exports name pairs)
 
@@ -78,7 +78,7 @@ module _ (request : InterpRequest) (image_name start_name start : List ℕ) (con
   pages_are : pages_of program ≡ sizes_of tree
   pages_are = alike.pages ∙ map_map memory_def (λ memory. memory.pages) tree.memories
 
-  exports_are : function_named request.export program.exports ≡ number_of request.export tree.exports
+  exports_are : function_named request.export program.exports ≡ value_named request.export tree.exports
   exports_are = ap (function_named request.export) alike.exports ∙ same_exports request.export tree.exports
 
   abbrev run_of : ℕ → RunRequest

@@ -8,12 +8,13 @@ use Rattle.bl_base.specs.Runs.{Outcome}
 use Rattle.bl_base.specs.declared.start.Start.{Start}
 use Rattle.bl_base.specs.declared.names.Role.TheVariants.{Client, Library}
 use Rattle.bl_text.specs.Names.{module_name}
-use Rattle.bl_wasm.specs.Exports.{number_of}
+use Rattle.bl_wasm.specs.Exports.{value_named}
 use Rattle.bl_wasm.specs.Linked.{IsLinked}
 use Rattle.bl_wasm.specs.Modules.{Spells}
 use Rattle.bl_wasm.specs.declared.linked.Tree.{Tree}
 use Rattle.bl_wasm.specs.declared.module.Import.{Import}
 use Rattle.bl_wasm.specs.declared.module.Module.{Module}
+use Rattle.bl_wasm.proofs.NamedLemmas.{stands_at, value_found}
 use Rattle.bl_link.specs.ExportNames.{qualified}
 use Rattle.bl_link.specs.Links.{part_of}
 use Rattle.bl_link.specs.declared.part.Part.{Part as LinkPart}
@@ -32,7 +33,6 @@ use Rattle.bl_whole.proofs.BareJoined.{runs_bare, runs_marked}
 use Rattle.bl_apart.specs.LinkedApart.{AreLinked, AreUsers, IsExported, IsGiven, IsOwn}
 use Rattle.bl_apart.proofs.JoinedExports.{export_kept}
 use Rattle.bl_apart.proofs.JoinedLinks.{joins_as_linked}
-use Rattle.bl_apart.proofs.UserExports.{stands_at}
 use Rattle.bl_build.specs.EntryStages.{function_named}
 use Rattle.bl_build.specs.InterfaceStages.{IsFileOf}
 use Rattle.bl_build.specs.LoadStages.{AreLoadable, LabelledModule, Part, linked_parts, loading}
@@ -42,7 +42,7 @@ use Rattle.bl_build.proofs.LoadLemmas.{IsAccepted, loading_lawful}
 use Rattle.bl_app.specs.JoinedModules.{AreKept, AreLoaded, Calls, EndAlike, EndsAsLinked, File, IsWanted, KeepTo, Trees, clients, contents_of, join_call, modules_in, numbers_in, part_call, words_of}
 use Rattle.bl_app.proofs.ImageLemmas.{same_exports}
 use Rattle.bl_app.proofs.JoinedParts.{IsWhole, is_join, is_part, parts_joined}
-use Rattle.bl_app.proofs.JoinedUsers.{AreBoth, number_found, redirected}
+use Rattle.bl_app.proofs.JoinedUsers.{AreBoth, redirected}
 use Rattle.bl_app.proofs.LoadedApart.{AreRead, are_read}
 
 -- ---- files
@@ -128,14 +128,14 @@ module _ (iface : Iface) (stubs libraries users : List LinkPart) (trees : Trees)
         (run.0, here.0, here.1, here.2, run.2, run.3);
   }
 
-  ends_as_linked : All (λ (one : FnIface). AreBoth trees.client trees.library one.name) iface.functions → (name : List ℕ) (function : ℕ) → number_of name trees.whole.exports ≡ Some function
+  ends_as_linked : All (λ (one : FnIface). AreBoth trees.client trees.library one.name) iface.functions → (name : List ℕ) (function : ℕ) → value_named name trees.whole.exports ≡ Some function
       → IsOwn trees.stub trees.client name → EndsAsLinked trees iface program name function
   ends_as_linked both name function stands own =
       let exported = All-weaker (λ (one : FnIface). AreBoth trees.client trees.library one.name) (IsExported trees.library)
       (λ one known. (known.callee, stands_at trees.library.exports one.name known.callee known.there)) iface.functions both in
       let kept = export_kept iface stubs libraries users trees.stub trees.library trees.client trees.whole are joins name function exported own (stands_at trees.whole.exports name function stands) in
       record {
-        exported = ap (λ (p : Program). function_named name p.exports) same ∙ same_exports name joined.exports ∙ number_found joined.exports name (numbers.names.function function) kept.0 can_run.distinct kept.1;
+        exported = ap (λ (p : Program). function_named name p.exports) same ∙ same_exports name joined.exports ∙ value_found joined.exports kept.0 (name, numbers.names.function function) can_run.distinct kept.1;
         alike = end_alike function;
       }
 
@@ -179,13 +179,13 @@ module _ (calls : Calls) (iface : Iface) (trees : Trees) (loaded : AreLoaded cal
         (λ (file : File). (wasm : Module) → Spells file.bytes wasm → All (IsGiven iface trees.stub trees.client trees.library (linked_parts read.used)) wasm.imports)
         (λ file h wasm spelled. All-weaker (IsWanted calls.users iface) (IsGiven iface trees.stub trees.client trees.library (linked_parts read.used)) given wasm.imports (h wasm spelled)) calls.users keep.imports)
 
-    pub ends : (name : List ℕ) (function : ℕ) → number_of name trees.whole.exports ≡ Some function → IsOwn trees.stub trees.client name → EndsAsLinked trees iface program name function
+    pub ends : (name : List ℕ) (function : ℕ) → value_named name trees.whole.exports ≡ Some function → IsOwn trees.stub trees.client name → EndsAsLinked trees iface program name function
     ends name function stands own =
         ends_as_linked iface read.stubs read.libraries (linked_parts read.used) trees read.linked joins there.2.2.2.can_run program whole.can_run whole.same whole.both name function stands own
 
 pub joined_ends : (calls : Calls) (iface : Iface) (trees : Trees) (own program : Program) → AreKept calls → IsFileOf calls.iface.bytes iface → AreLoaded calls trees → KeepTo calls iface trees
     → Image own calls.joined.bytes → bare program ≡ bare own
-    → (name : List ℕ) (function : ℕ) → number_of name trees.whole.exports ≡ Some function → IsOwn trees.stub trees.client name → EndsAsLinked trees iface program name function
+    → (name : List ℕ) (function : ℕ) → value_named name trees.whole.exports ≡ Some function → IsOwn trees.stub trees.client name → EndsAsLinked trees iface program name function
 joined_ends calls iface trees own program kept file loaded keep image same =
     let c = is_part (part_call Client calls.client_iface calls.client (clients calls)) calls.client_iface.bytes (contents_of (clients calls)) calls.client kept.client in
     let l = is_part (part_call Library calls.library_iface calls.library calls.libraries) calls.library_iface.bytes (contents_of calls.libraries) calls.library kept.library in

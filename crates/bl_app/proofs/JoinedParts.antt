@@ -3,7 +3,7 @@ use Rattle.std.proofs.Common.{◌≡◌, ℕ, List, [], ◌∷◌, Bool, Option,
 use Rattle.std.specs.Prelude.{IsSomeAnd}
 use Rattle.std.specs.List.{All}
 use Rattle.bl_base.proofs.Lists.{all_from, all_get}
-use Rattle.bl_wasm.specs.Exports.{number_of}
+use Rattle.bl_wasm.specs.Exports.{value_named}
 use Rattle.bl_wasm.specs.Linked.{IsLinked}
 use Rattle.bl_wasm.specs.declared.linked.Tree.{Tree}
 use Rattle.bl_reduce.specs.Runnable.{IsRunnable}
@@ -106,7 +106,7 @@ some_and (Some function) P h = (function, refl)
 
 -- a program that is a tree's, but for marks and weights, exports what the tree does
 found_in : (tree : Tree) (program : Program) (name : List ℕ) (P : ℕ → Type 0) → bare program ≡ bare (low_tree tree) → IsSomeAnd (exported program.exports name) P
-    → (function : ℕ) × (number_of name tree.exports ≡ Some function)
+    → (function : ℕ) × (value_named name tree.exports ≡ Some function)
 found_in tree program name P is h =
     let found = some_and (exported program.exports name) P h in
     (found.0, sym (exported_same tree.exports name) ∙ sym (ap (λ (p : Program). exported p.exports name) is) ∙ found.1)

@@ -13,7 +13,7 @@ use Rattle.bl_base.specs.declared.names.Label.TheVariants as label
 use Rattle.bl_base.specs.declared.names.Flow.TheVariants as flow
 use Rattle.bl_base.specs.declared.names.ValueType.TheVariants as value
 use Rattle.bl_base.specs.declared.quantity.Quantity.TheVariants as quantity
-use Rattle.bl_wasm.specs.Exports.{number_of}
+use Rattle.bl_wasm.specs.Exports.{value_named}
 use Rattle.bl_wasm.specs.Limits.{local_count}
 use Rattle.bl_wasm.specs.Linked.{HasImmediates}
 use Rattle.bl_wasm.specs.Validity.{HasIntegers, HasTyping, IsCode, IsData, IsElement, IsFunctionType, IsInitial, IsInteger, IsLimits, IsMemory, Typed, functions_of, global_of, globals_of, imported, memories_of, space_of, tables_of}
@@ -345,9 +345,9 @@ names : StandFor iface stub library
 names one other function h k e f = by (bytes_eq one (codes "lib/f")) refl (bytes_eq other (codes "lib/f")) refl h k
   where
     by : (a : Bool) → bytes_eq one (codes "lib/f") ≡ a → (b : Bool) → bytes_eq other (codes "lib/f") ≡ b → (a || false) ≡ true → (b || false) ≡ true
-        → number_of one library.exports ≡ number_of other library.exports
+        → value_named one library.exports ≡ value_named other library.exports
     by true x true y h k =
-        ap (λ (name : List ℕ). number_of name library.exports) ((bytes_eq-Decides one (codes "lib/f")).0 x ∙ sym ((bytes_eq-Decides other (codes "lib/f")).0 y))
+        ap (λ (name : List ℕ). value_named name library.exports) ((bytes_eq-Decides one (codes "lib/f")).0 x ∙ sym ((bytes_eq-Decides other (codes "lib/f")).0 y))
     by true x false y h k = absurd (false≢true k)
     by false x b y h k = absurd (false≢true h)
 

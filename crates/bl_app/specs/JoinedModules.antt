@@ -6,7 +6,7 @@ use Rattle.bl_base.specs.declared.start.Start.{Start}
 use Rattle.bl_base.specs.declared.names.Role.{Role}
 use Rattle.bl_base.specs.declared.names.Role.TheVariants.{Client, Library}
 use Rattle.bl_text.specs.Names.{module_name}
-use Rattle.bl_wasm.specs.Exports.{number_of}
+use Rattle.bl_wasm.specs.Exports.{value_named}
 use Rattle.bl_wasm.specs.Modules.{Spells}
 use Rattle.bl_wasm.specs.declared.linked.Tree.{Tree}
 use Rattle.bl_wasm.specs.declared.module.Import.{Import}
@@ -118,8 +118,8 @@ IsWanted users iface wanted =
 pub record KeepTo (calls : Calls) (iface : Iface) (trees : Trees) : Type 0 where
   pub imports : All (λ file. (wasm : Module) → Spells file.bytes wasm → All (IsWanted calls.users iface) wasm.imports) calls.users
   pub names : (one other : List ℕ) (function : ℕ) → IsNamed iface one → IsNamed iface other
-      → number_of one trees.stub.exports ≡ Some function → number_of other trees.stub.exports ≡ Some function
-      → number_of one trees.library.exports ≡ number_of other trees.library.exports
+      → value_named one trees.stub.exports ≡ Some function → value_named other trees.stub.exports ≡ Some function
+      → value_named one trees.library.exports ≡ value_named other trees.library.exports
 
 -- ---- what is said
 

@@ -23,7 +23,7 @@ ghost use Rattle.bl_build.specs.HardenStage.{Hardened, IsHardened, IsYes};
 ghost use Rattle.bl_app.specs.InterpJob.{InterpDoes};
 ghost use Rattle.bl_apart.specs.LinkedApart.{IsOwn};
 ghost use Rattle.bl_app.specs.JoinedModules.{AreKept, AreLoaded, Calls, EndsAsLinked, KeepTo, Trees};
-ghost use Rattle.bl_wasm.specs.Exports.{number_of};
+ghost use Rattle.bl_wasm.specs.Exports.{value_named};
 ghost use Rattle.bl_iface.specs.declared.iface.Iface.{Iface};
 ghost use Rattle.bl_build.specs.InterfaceStages.{IsFileOf, Parted};
 ghost use Rattle.bl_job.specs.Jobs.{AreRead, FirstRefusal, IsLawful, IsTotal, Plan};
@@ -187,5 +187,5 @@ pub fn what_is_hardened_is_verified()
 pub fn joined_images_end_as_linked_modules()
     ensures { (calls : Calls) (iface : Iface) (trees : Trees) (own program : Program) → AreKept calls → IsFileOf calls.iface.bytes iface → AreLoaded calls trees
         → KeepTo calls iface trees → Image own calls.joined.bytes → bare program ≡ bare own
-        → (name : Listed ℕ) (function : ℕ) → number_of name trees.whole.exports ≡ Some function → IsOwn trees.stub trees.client name → EndsAsLinked trees iface program name function }
+        → (name : Listed ℕ) (function : ℕ) → value_named name trees.whole.exports ≡ Some function → IsOwn trees.stub trees.client name → EndsAsLinked trees iface program name function }
 {}

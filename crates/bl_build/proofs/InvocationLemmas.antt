@@ -1,14 +1,15 @@
 -- An exported function of a linked tree and its start are one; exported functions exist; why start files are refused.
-use Rattle.std.proofs.Common.{◌≡◌, ℕ, List, [], ◌∷◌, Option, Some, ap, sym, ◌∙◌, subst, ◌<◌, Bool, true, false, cond, None, refl}
+use Rattle.std.proofs.Common.{◌≡◌, ℕ, List, Option, Some, ap, sym, ◌∙◌, subst, ◌<◌, None, refl}
 use Rattle.std.specs.Prelude.{Result, Ok, Err, slice_get, option_and_then}
 use Rattle.bl_base.specs.declared.start.Start.{Start}
-use Rattle.bl_wasm.specs.Exports.{number_of, Pairs}
+use Rattle.bl_wasm.specs.Exports.{value_named, Pairs}
 use Rattle.bl_wasm.specs.declared.linked.Signature.{Signature}
 use Rattle.bl_wasm.specs.declared.linked.Tree.{Tree}
 use Rattle.bl_trace.specs.StartFiles.{answer_of, IsAnswer}
 use Rattle.bl_trace.specs.declared.error.StartError.{StartError}
 use Rattle.bl_trace.specs.declared.error.StartError.TheVariants.{Line, Count, Memory}
 use Rattle.bl_wasm.specs.Linked.{type_of}
+use Rattle.bl_wasm.proofs.NamedLemmas.{stands_at}
 use Rattle.bl_build.specs.InvocationStages.{preparing, Invoked, Invokes, InvokingRefuses, invoking, line_is_bad, not_exported, sizes_of, too_few}
 use Rattle.bl_build.specs.LoadStages.{loading}
 use Rattle.bl_job.specs.Refusals.{Refusal}
@@ -17,10 +18,9 @@ use Rattle.bl_job.specs.Stages.{IsLawfulStage}
 use Rattle.bl_build.proofs.LoadLemmas.{loading_lawful}
 use Rattle.bl_job.proofs.StageLemmas.{chain_lawful, told_as, told_memory}
 use Rattle.std.specs.List.{All}
-use Rattle.std.specs.Str.{bytes_eq}
-use Rattle.std.proofs.lemmas.List.Elements.{All-head, All-tail}
 use Rattle.std.proofs.lemmas.Option.{same_Some}
 use Rattle.bl_base.specs.Fits.{Fits}
+use Rattle.bl_base.proofs.Lists.{all_get}
 use Rattle.bl_wasm.specs.declared.linked.Function.{Function}
 use Rattle.bl_reduce.specs.Outcomes.{IsStart}
 use Rattle.bl_job.specs.WorkAnswers.{IsStaged, IsTold}
@@ -29,13 +29,13 @@ use Rattle.bl_build.specs.StageAnswers.{refusal_of_start}
 
 module _ (export bytes : List ℕ) (tree : Tree) where
   -- an exported name has one type
-  one_type : (f g : ℕ) (t u : Signature) → number_of export tree.exports ≡ Some f → number_of export tree.exports ≡ Some g → type_of tree f ≡ Some t → type_of tree g ≡ Some u → t ≡ u
+  one_type : (f g : ℕ) (t u : Signature) → value_named export tree.exports ≡ Some f → value_named export tree.exports ≡ Some g → type_of tree f ≡ Some t → type_of tree g ≡ Some u → t ≡ u
   one_type f g t u is other typed typed' =
       let same = same_Some f g (sym is ∙ other) in
       same_Some t u (sym (subst (λ n. type_of tree n ≡ Some t) same typed) ∙ typed')
 
   -- and a start file one answer
-  one_answer : (f g : ℕ) (t u : Signature) (a b : Result Start StartError) → number_of export tree.exports ≡ Some f → number_of export tree.exports ≡ Some g → type_of tree f ≡ Some t → type_of tree g ≡ Some u
+  one_answer : (f g : ℕ) (t u : Signature) (a b : Result Start StartError) → value_named export tree.exports ≡ Some f → value_named export tree.exports ≡ Some g → type_of tree f ≡ Some t → type_of tree g ≡ Some u
       → answer_of t.params (sizes_of tree) bytes ≡ a → answer_of u.params (sizes_of tree) bytes ≡ b → a ≡ b
   one_answer f g t u a b is other typed typed' e e' = sym e ∙ (ap (λ t. answer_of t.params (sizes_of tree) bytes) (one_type f g t u is other typed typed') ∙ e')
 
@@ -86,19 +86,12 @@ pub preparing_lawful : (export start : List ℕ) → IsLawfulStage (preparing ex
 preparing_lawful export start = chain_lawful loading (invoking export start) loading_lawful (invoking_lawful export start)
 
 -- the number under a name is one of those that are listed
-pub exported_exists : (count : ℕ) (name : List ℕ) (pairs : Pairs) (function : ℕ) → All (λ pair. pair.1 < count) pairs → number_of name pairs ≡ Some function → function < count
-exported_exists count name [] function all e = cc
-exported_exists count name (pair ∷ pairs) function all e =
-    of_test (bytes_eq name pair.0) (exported_exists count name pairs function (All-tail (λ pair. pair.1 < count) pair pairs all)) e
-  where
-    of_test : (found : Bool) → (number_of name pairs ≡ Some function → function < count) → cond found (Some pair.1) (number_of name pairs) ≡ Some function → function < count
-    of_test true behind e =
-        let same : pair.1 ≡ function = cc in
-        subst (λ n. n < count) same (All-head (λ pair. pair.1 < count) pair pairs all)
-    of_test false behind e = behind e
+pub exported_exists : (count : ℕ) (name : List ℕ) (pairs : Pairs) (function : ℕ) → All (λ pair. pair.1 < count) pairs → value_named name pairs ≡ Some function → function < count
+exported_exists count name pairs function all e =
+    let there = stands_at pairs name function e in all_get (λ pair. pair.1 < count) pairs there.0 (name, function) all there.1
 
 -- an error of reading a start file is why it is refused
-pub start_refused : {X : Type 0} (value : X → Invoked) (tree : Tree) (export bytes : List ℕ) (function : ℕ) (type : Signature) (error : StartError) → number_of export tree.exports ≡ Some function → type_of tree function ≡ Some type
+pub start_refused : {X : Type 0} (value : X → Invoked) (tree : Tree) (export bytes : List ℕ) (function : ℕ) (type : Signature) (error : StartError) → value_named export tree.exports ≡ Some function → type_of tree function ≡ Some type
     → IsAnswer (answer_of type.params (sizes_of tree) bytes) (Err error) → (w : WorkError) → IsTold (refusal_of_start error) w → IsStaged (invoking export bytes) value tree (Err w)
 start_refused value tree export bytes function type (Line number) is typed answer = told_as _ (InvokingRefuses export bytes tree) (line_is_bad function number type is typed (sym answer) refl)
 start_refused value tree export bytes function type (Count count) is typed answer = told_as _ (InvokingRefuses export bytes tree) (too_few function count type is typed (sym answer) refl)

@@ -9,7 +9,7 @@ use Rattle.bl_base.proofs.Lists.{all_get, within_get, zip_get, mapped_get}
 use Rattle.bl_base.specs.Fits.{AreBytes}
 use Rattle.bl_base.specs.Quantity.{limit_of}
 use Rattle.bl_base.specs.declared.quantity.Quantity.TheVariants as quantity
-use Rattle.bl_wasm.specs.Exports.{number_of}
+use Rattle.bl_wasm.specs.Exports.{value_named}
 use Rattle.bl_wasm.specs.Linked.{IsFunction, IsLinked, type_of}
 use Rattle.bl_wasm.specs.declared.linked.Function.{Function}
 use Rattle.bl_wasm.specs.declared.linked.Tree.{Tree}
@@ -178,7 +178,7 @@ module _ (export start : List ℕ) where
     typed : (number : ℕ) (function : Function) → slice_get tree.functions number ≡ Some function → (f : IsFunction tree function) → type_of tree number ≡ Some f.type
     typed number function stands f = ap (λ found. Rattle.std.specs.Prelude.option_and_then (λ (f : Function). slice_get tree.types f.type_index) found) stands ∙ f.exists
 
-    of_number : (found : Option ℕ) → number_of export tree.exports ≡ found → ⊥
+    of_number : (found : Option ℕ) → value_named export tree.exports ≡ found → ⊥
     of_number None e = refused no_export (not_exported e refl)
     of_number (Some number) e =
         let function = within_get tree.functions number (exported_exists (length tree.functions) export tree.exports number is.exports e) in
@@ -189,7 +189,7 @@ module _ (export start : List ℕ) where
         (λ line read. refused (bad_line line) (line_is_bad number line known.type e type read refl)) (λ count read. refused (few_arguments count) (too_few number count known.type e type read refl))
 
   pub invoking_total : IsTotalStage IsLinked (invoking export start)
-  invoking_total = record { always = λ tree is made refused. of_number tree is made refused (number_of export tree.exports) refl }
+  invoking_total = record { always = λ tree is made refused. of_number tree is made refused (value_named export tree.exports) refl }
 
   pub preparing_total : IsTotalStage AreLoadable (preparing export start)
   preparing_total = chain_total AreLoadable IsLinked loading (invoking export start) loading_total invoking_total (λ parts tree given loaded. loaded.2.2.2.can_run)

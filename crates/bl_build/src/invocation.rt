@@ -35,7 +35,7 @@ pub fn prepare_invocation<'a>(
     ensures invoked { IsStaged (invoking export.now bytes.now) (invoked_in tree.now) tree.now result }
     ensures fits { IfOk result (λ invocation. IsStart tree.now invocation.function invocation.start) }
 {
-    let Some(function) = tree.exports.find(export) else {
+    let Some(function) = tree.exports.find(export.as_bytes()) else {
         return Err(no_export(alloc));
     };
     let kind = signature(tree, function);

@@ -1,41 +1,19 @@
 -- Names that are added one after another.
-use Rattle.std.proofs.Common.{◌≡◌, ◌∙◌, refl, sym, ap, subst, ℕ, suc, ◌+◌, ◌<◌, List, [], ◌∷◌, ◌++◌, length, get_or, drop, map, true, false, cond, Option, Some, None, slice_get, filter_map, arith, append_assoc}
+use Rattle.std.proofs.Common.{◌≡◌, ◌∙◌, refl, sym, ap, subst, ℕ, ◌+◌, ◌<◌, List, [], ◌∷◌, ◌++◌, length, get_or, drop, map, Option, Some, None, slice_get, filter_map, arith, append_assoc}
 use Rattle.std.specs.List.{cons_option}
-use Rattle.std.specs.Bool.{Decides}
-use Rattle.std.specs.Str.{bytes_eq}
 use Rattle.std.proofs.lemmas.List.{drop_more}
 use Rattle.std.proofs.lemmas.Option.{slice_get_within}
-use Rattle.std.proofs.lemmas.Slice.Eq.{bytes_eq-Decides}
-use Rattle.bl_wasm.specs.Exports.{AreDistinct, Pairs, number_of}
+use Rattle.bl_wasm.specs.Exports.{AreDistinct, Pairs, value_named}
 use Rattle.bl_wasm.specs.declared.module.Export.{Export}
 use Rattle.bl_wasm.specs.declared.module.ExportKind.TheVariants as export
+use Rattle.bl_wasm.proofs.NamedLemmas.{value_none}
 use Rattle.bl_link.specs.Links.{exported, pair}
-use Rattle.bl_link.specs.ExportNames.{qualified, value_named}
+use Rattle.bl_link.specs.ExportNames.{Values, qualified}
 use Rattle.bl_link.specs.OwnNames.{own}
-use Rattle.bl_link.specs.NamedPairs.{Values}
 use Rattle.bl_link.specs.IndexSpaces.{External, Spaces, number, space}
 use Rattle.bl_link.specs.Stores.{AreApart}
 use Rattle.bl_link.proofs.NameLemmas.{apart_map}
 use Rattle.bl_link.proofs.NumberedLists.{get_left, get_right}
-
--- of a name that no value before has there is no value
-value_none : (these : List ℕ) (values : Values) → ((i : ℕ) (value : List ℕ × External) → slice_get values i ≡ Some value → value.0 ≡ these → ⊥) → value_named these values ≡ None
-value_none these [] absent = refl
-value_none these (value ∷ values) absent =
-    let later : value_named these values ≡ None = value_none these values (λ i v found same. absent (suc i) v found same) in
-    elim (bytes_eq these value.0) as (λ b. Decides b (these ≡ value.0) → cond b (Some value.1) (value_named these values) ≡ None) [
-      | true ↦ λ same. absurd (absent 0 value refl (sym (same.0 refl)))
-      | false ↦ λ other. later
-    ] (bytes_eq-Decides these value.0)
-
-number_none : (these : List ℕ) (pairs : Pairs) → ((i : ℕ) (one : List ℕ × ℕ) → slice_get pairs i ≡ Some one → one.0 ≡ these → ⊥) → number_of these pairs ≡ None
-number_none these [] absent = refl
-number_none these (one ∷ pairs) absent =
-    let later : number_of these pairs ≡ None = number_none these pairs (λ i v found same. absent (suc i) v found same) in
-    elim (bytes_eq these one.0) as (λ b. Decides b (these ≡ one.0) → cond b (Some one.1) (number_of these pairs) ≡ None) [
-      | true ↦ λ same. absurd (absent 0 one refl (sym (same.0 refl)))
-      | false ↦ λ other. later
-    ] (bytes_eq-Decides these one.0)
 
 -- the name of an element isn't that of one before it
 not_before : {A : Type 0} (name : A → List ℕ) (before : List A) (x : A) (later : List A) → AreApart name (before ++ x ∷ later)
@@ -108,11 +86,11 @@ module _ (part : List ℕ) (spaces : Spaces) (entries : List Export) (i : ℕ) (
       ∙ ap (λ l. now ++ l) (sym (filtered_at (λ entry. pair (exported part spaces entry)) entries i entry below is))
       ∙ so_far
 
-  pub pair_is_new : (whole these : List ℕ) → entry.kind ≡ export.Function → AreDistinct (before ++ pairs_of entries) → these ≡ entry.name → whole ≡ qualified part these → number_of whole now ≡ None
+  pub pair_is_new : (whole these : List ℕ) → entry.kind ≡ export.Function → AreDistinct (before ++ pairs_of entries) → these ≡ entry.name → whole ≡ qualified part these → value_named whole now ≡ None
   pair_is_new whole these function distinct named spelled =
       let apart : AreApart (λ (one : List ℕ × ℕ). one.0) (now ++ (qualified part entry.name, number spaces.functions entry.index) ∷ pairs_of (drop (i + 1) entries)) =
       subst (AreApart (λ (one : List ℕ × ℕ). one.0)) (sym (split_pair function)) distinct in
-      let none : number_of (qualified part entry.name) now ≡ None = number_none (qualified part entry.name) now
+      let none : value_named (qualified part entry.name) now ≡ None = value_none (qualified part entry.name) now
       (not_before (λ (one : List ℕ × ℕ). one.0) now (qualified part entry.name, number spaces.functions entry.index) (pairs_of (drop (i + 1) entries)) apart) in
       rw (spelled, named) none
 

@@ -3,7 +3,6 @@ pub mod Exports
 pub mod FaultLemmas
 pub mod PartLoop
 pub mod ImportMatchLemmas
-pub mod NamedLemmas
 pub mod NameLemmas
 pub mod NumberedPairs
 pub mod NumberedLists

@@ -1,19 +1,19 @@
 -- A look-up by a name in the tree goes through the exports of all parts.
-use Rattle.std.proofs.Common.{◌≡◌, ◌≢◌, Bor, ◌∙◌, refl, sym, ap, ℕ, ◌+◌, ◌<◌, true, false, cond, List, [], ◌∷◌, ◌++◌, length, map, drop, get_or, Option, Some, None, slice_get, arith, append-nil}
+use Rattle.std.proofs.Common.{◌≡◌, ◌≢◌, Bor, ◌∙◌, refl, sym, ap, ℕ, ◌+◌, ◌<◌, true, false, cond, List, [], ◌∷◌, ◌++◌, length, map, drop, get_or, Option, Some, None, slice_get, arith}
 use Rattle.std.specs.Prelude.{option_map, MatchOption}
 use Rattle.std.specs.Bool.{Decides}
 use Rattle.std.specs.Option.{option_or}
 use Rattle.std.specs.Str.{bytes_eq}
 use Rattle.std.proofs.lemmas.Bool.{false_from_ne_true, false≢true}
-use Rattle.std.proofs.lemmas.Grind.{flat_map-append}
 use Rattle.std.proofs.lemmas.List.{append_cancel_left, drop_more}
 use Rattle.std.proofs.lemmas.Option.{slice_get-map}
 use Rattle.std.proofs.lemmas.Slice.Eq.{bytes_eq-Decides}
+use Rattle.bl_wasm.specs.Exports.{value_named}
 use Rattle.bl_wasm.specs.declared.module.Export.{Export}
+use Rattle.bl_wasm.proofs.NamedLemmas.{value_append}
 use Rattle.bl_link.specs.AllNames.{behind, of_part, of_parts}
 use Rattle.bl_link.specs.Links.{exported}
-use Rattle.bl_link.specs.ExportNames.{qualified, value_named}
-use Rattle.bl_link.specs.NamedPairs.{Values}
+use Rattle.bl_link.specs.ExportNames.{Values, qualified}
 use Rattle.bl_link.specs.OwnNames.{own}
 use Rattle.bl_link.specs.IndexSpaces.{External, Spaces}
 use Rattle.bl_link.specs.Stores.{AreApart}
@@ -50,14 +50,6 @@ other_named part name (x ∷ xs) other =
     ap (λ b. cond b (Some x.1) (value_named name (map (behind part) xs))) no ∙ other_named part name xs other
 
 -- ---- all parts
-
-value_append : (name : List ℕ) (xs ys : Values) → value_named name (xs ++ ys) ≡ option_or (value_named name xs) (value_named name ys)
-value_append name [] ys = refl
-value_append name (x ∷ xs) ys =
-    elim (bytes_eq name x.0) as (λ b. cond b (Some x.1) (value_named name (xs ++ ys)) ≡ option_or (cond b (Some x.1) (value_named name xs)) (value_named name ys)) [
-      | true ↦ refl
-      | false ↦ value_append name xs ys
-    ]
 
 -- what is found first hides the rest
 pub or_other : (found later : Option External) → ((value : External) → found ≡ Some value → ⊥) → option_or found later ≡ later

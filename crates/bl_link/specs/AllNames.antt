@@ -3,8 +3,7 @@ use Rattle.std.specs.Prelude.{ℕ, List, map}
 use Rattle.std.specs.List.{flat_map}
 use Rattle.bl_link.specs.declared.all_names.PartNames.{PartNames}
 use Rattle.bl_link.specs.declared.store.External.{External}
-use Rattle.bl_link.specs.ExportNames.{qualified}
-use Rattle.bl_link.specs.NamedPairs.{Values}
+use Rattle.bl_link.specs.ExportNames.{Values, qualified}
 
 -- an export of a part by its name in the tree
 abbrev pub behind : List ℕ → List ℕ × External → List ℕ × External

@@ -4,6 +4,7 @@ use Rattle.std.specs.List.{enumerate_from, list_any}
 use Rattle.std.specs.Cmp.Lexicographic.{pointwise}
 use Rattle.bl_base.specs.declared.names.ValueType.{ValueType}
 use Rattle.bl_base.specs.declared.names.ValueType.TheVariants as value
+use Rattle.bl_wasm.specs.Exports.{value_named}
 use Rattle.bl_wasm.specs.Linked.{type_of}
 use Rattle.bl_wasm.specs.declared.module.Import.{Import}
 use Rattle.bl_wasm.specs.declared.module.ImportKind.{ImportKind}
@@ -18,7 +19,7 @@ use Rattle.bl_wasm.specs.declared.types.GlobalType.{GlobalType}
 use Rattle.bl_wasm.specs.declared.types.Limits.{Limits}
 use Rattle.bl_wasm.specs.declared.linked.Signature.{Signature}
 use Rattle.bl_wasm.specs.declared.linked.Global.{Global}
-use Rattle.bl_link.specs.ExportNames.{qualified, value_named}
+use Rattle.bl_link.specs.ExportNames.{qualified}
 use Rattle.bl_link.specs.IndexSpaces.{External, LinkError, Unknown, Mismatch, Store, all_ok}
 
 -- ---- types of the tree

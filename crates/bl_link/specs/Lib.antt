@@ -8,7 +8,6 @@ pub mod Linkable
 pub mod Links
 pub mod ImportMatches
 pub mod ExportNames
-pub mod NamedPairs
 pub mod IndexSpaces
 pub mod OwnNames
 pub mod Signatures

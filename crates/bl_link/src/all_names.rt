@@ -1,11 +1,12 @@
 //! The exports of all parts that are linked, by their names in the tree.
 ghost use Rattle.std.specs.Prelude.{◌≡◌, [], ◌++◌, List as Listed, ℕ, MatchOption, OnOk, OnErr, map};
+ghost use Rattle.bl_wasm.specs.Exports.{value_named};
 ghost use Rattle.bl_link.specs.AllNames.{behind, of_part, of_parts};
-ghost use Rattle.bl_link.specs.ExportNames.{qualified, value_named};
+ghost use Rattle.bl_link.specs.ExportNames.{qualified};
 
-use crate::named::Named;
 use crate::store::External;
 use bl_base::{List, NoMemory, Text};
+use bl_wasm::Named;
 use std::alloc::Global;
 use std::marker::Model;
 
@@ -15,7 +16,7 @@ pub(crate) struct PartNames {
     /// The name of the part.
     pub part: Text,
     /// Its exports, by their own names.
-    pub exports: Named,
+    pub exports: Named<External>,
 }
 
 /// The exports of parts, in order; the name of a part stands once. Contracts see the list of the pairs of a name in the tree and a
@@ -27,7 +28,7 @@ pub(crate) struct AllNames {
 
 impl Model for AllNames {
     ghost use Rattle.bl_link.specs.AllNames.{of_parts};
-    ghost use Rattle.bl_link.specs.NamedPairs.{Values};
+    ghost use Rattle.bl_link.specs.ExportNames.{Values};
 
     ghost Value = { Values };
 
@@ -86,7 +87,7 @@ impl AllNames {
     }
 
     /// Adds the exports of a part of that name.
-    pub(crate) fn add(&mut self, part: Text, exports: Named) -> Result<(), NoMemory>
+    pub(crate) fn add(&mut self, part: Text, exports: Named<External>) -> Result<(), NoMemory>
         ensures ok { OnOk result (self.new ≡ self.old ++ map (behind part) exports) }
         ensures err { OnErr result (self.new ≡ self.old) }
     {

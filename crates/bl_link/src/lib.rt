@@ -9,7 +9,6 @@ mod error;
 mod given;
 pub mod laws;
 mod matching;
-mod named;
 mod names;
 mod part;
 mod rename;

@@ -8,11 +8,10 @@ ghost use Rattle.bl_link.specs.IndexSpaces.{space as space_of};
 ghost use Rattle.bl_link.specs.Stores.{AreApart};
 
 use crate::all_names::AllNames;
-use crate::named::Named;
 use crate::rename::number;
 use crate::store::{External, Spaces};
 use bl_base::{List, NoMemory, Text};
-use bl_wasm::{Export, ExportKind, Exports};
+use bl_wasm::{Export, ExportKind, Exports, Named};
 use std::alloc::Global;
 
 /// The name of an export behind its part's: a solidus parts them. Takes as many bytes as it has.
@@ -50,7 +49,7 @@ fn external(spaces: &Spaces, entry: &Export) -> External
 }
 
 /// The exports of a part by their own names.
-fn own_names(alloc: Global, spaces: &Spaces, entries: &[Export]) -> Result<Named, NoMemory>
+fn own_names(alloc: Global, spaces: &Spaces, entries: &[Export]) -> Result<Named<External>, NoMemory>
     requires { AreApart (λ entry. entry.name) entries.now }
     ensures { IfOk result (λ names. names ≡ map (own spaces.now) entries.now) }
 {

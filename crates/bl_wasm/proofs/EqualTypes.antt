@@ -3,6 +3,7 @@ use Rattle.std.proofs.Common.{◌≡◌, ℕ, zero, suc, ◌+◌, ◌==◌, ◌<
 use Rattle.std.specs.Prelude.{nat_lt, ◌&&◌, if◌then◌else◌, unwrap_or}
 use Rattle.std.specs.Bool.{Decides}
 use Rattle.std.specs.Cmp.Lexicographic.{pointwise}
+use Rattle.std.specs.Option.{option_or}
 use Rattle.std.specs.Str.{bytes_eq}
 use Rattle.std.proofs.lemmas.Bool.{false≢true, eq-eqb, eqb-true, lt-ltb, le-ltb, ltb-true, ltb-false}
 use Rattle.std.proofs.lemmas.Slice.Eq.{bytes_eq-Decides, slice_eq-Decides}
@@ -11,12 +12,10 @@ use Rattle.bl_base.specs.declared.names.ValueType.{ValueType}
 use Rattle.bl_base.specs.declared.names.ValueType.TheVariants.{I32, I64}
 use Rattle.bl_base.proofs.BoolLemmas.{each_true}
 use Rattle.bl_base.proofs.Lists.{first_same}
-use Rattle.bl_wasm.specs.Exports.{Pairs, number_of}
+use Rattle.bl_wasm.specs.Exports.{Pairs, value_named}
 use Rattle.bl_wasm.specs.TypeNumbers.{first_of, is_same, is_same_type, letter, spelled, with_number}
 use Rattle.bl_wasm.specs.declared.linked.Signature.{Signature}
-use Rattle.bl_wasm.proofs.ExportLemmas.{number-pairs}
-
-pub ruleset known_rules = (number-pairs)
+use Rattle.bl_wasm.proofs.NamedLemmas.{value_append}
 
 -- ---- equal types
 
@@ -159,31 +158,15 @@ wider n i other = from (nat_lt n i) refl (nat_lt i n) refl
 
 -- ---- names behind others
 
-abbrev either : Option ℕ → Option ℕ → Option ℕ
-either (Some n) o = Some n
-either None o = o
-
-either_none : (o : Option ℕ) → either o None ≡ o
+either_none : (o : Option ℕ) → option_or o None ≡ o
 either_none (Some n) = refl
 either_none None = refl
-
-abbrev named : List ℕ → List ℕ → ℕ → Option ℕ
-named text name n = if bytes_eq text name then Some n else None
-
-found_behind : (text name : List ℕ) (n : ℕ) (pairs : Pairs) → number_of text (pairs ++ (name, n) ∷ []) ≡ either (number_of text pairs) (named text name n)
-found_behind text name n [] = refl
-found_behind text name n (pair ∷ pairs) = from (bytes_eq text pair.0) (found_behind text name n pairs)
-  where
-    from : (b : Bool) → number_of text (pairs ++ (name, n) ∷ []) ≡ either (number_of text pairs) (named text name n)
-        → (if b then Some pair.1 else number_of text (pairs ++ (name, n) ∷ [])) ≡ either (if b then Some pair.1 else number_of text pairs) (named text name n)
-    from true e = refl
-    from false e = e
 
 -- ---- types that are known
 
 -- of the first so many types, and of no other, the first equal one is known by its text
 pub record Knows (types : List Signature) (i : ℕ) (pairs : Pairs) : Type 0 where
-  pub found : (type : Signature) → number_of (spelled type) pairs ≡ below (first_of types type) i
+  pub found : (type : Signature) → value_named (spelled type) pairs ≡ below (first_of types type) i
 
 module _ (types : List Signature) (i : ℕ) (type : Signature) (pairs : Pairs) (here : slice_get types i ≡ Some type) (knows : Knows types i pairs) where
   is_here : (other : Signature) → first_of types other ≡ i → other ≡ type
@@ -192,7 +175,7 @@ module _ (types : List Signature) (i : ℕ) (type : Signature) (pairs : Pairs) (
       same_Some other type (sym there ∙ ap (slice_get types) e ∙ here)
 
   -- a type that was met before
-  pub met_again : (n : ℕ) → number_of (spelled type) pairs ≡ Some n → (n ≡ first_of types type) × Knows types (i + 1) pairs
+  pub met_again : (n : ℕ) → value_named (spelled type) pairs ≡ Some n → (n ≡ first_of types type) × Knows types (i + 1) pairs
   met_again n e =
       let b = got_below (first_of types type) i n (sym (knows.found type) ∙ e) in (
         b.0,
@@ -202,23 +185,23 @@ module _ (types : List Signature) (i : ℕ) (type : Signature) (pairs : Pairs) (
       )
 
   -- a type that is new
-  pub met_first : number_of (spelled type) pairs ≡ None → (i ≡ first_of types type) × Knows types (i + 1) (pairs ++ (spelled type, i) ∷ [])
-  met_first e = (first, record { found = λ other. found_behind (spelled other) (spelled type) i pairs ∙ of other (bytes_eq (spelled other) (spelled type)) refl })
+  pub met_first : value_named (spelled type) pairs ≡ None → (i ≡ first_of types type) × Knows types (i + 1) (pairs ++ (spelled type, i) ∷ [])
+  met_first e = (first, record { found = λ other. value_append (spelled other) pairs ((spelled type, i) ∷ []) ∙ of other (bytes_eq (spelled other) (spelled type)) refl })
     where
       first : i ≡ first_of types type
       first = omega (arith, none_below (first_of types type) i (sym (knows.found type) ∙ e), first_at types type i here)
 
       of : (other : Signature) (b : Bool) → bytes_eq (spelled other) (spelled type) ≡ b
-          → either (number_of (spelled other) pairs) (if b then Some i else None) ≡ below (first_of types other) (i + 1)
+          → option_or (value_named (spelled other) pairs) (if b then Some i else None) ≡ below (first_of types other) (i + 1)
       of other true same =
           let one = spelled_alike other type ((bytes_eq-Decides (spelled other) (spelled type)).0 same) in
-          subst (λ t. either (number_of (spelled t) pairs) (Some i) ≡ below (first_of types t) (i + 1)) (sym one)
-          (ap (λ o. either o (Some i)) e ∙ ap Some first ∙ sym (is_below (first_of types type) (i + 1) (omega (arith, first))))
+          subst (λ t. option_or (value_named (spelled t) pairs) (Some i) ≡ below (first_of types t) (i + 1)) (sym one)
+          (ap (λ o. option_or o (Some i)) e ∙ ap Some first ∙ sym (is_below (first_of types type) (i + 1) (omega (arith, first))))
       of other false not_same =
-          either_none (number_of (spelled other) pairs) ∙ knows.found other ∙ wider (first_of types other) i (λ same.
+          either_none (value_named (spelled other) pairs) ∙ knows.found other ∙ wider (first_of types other) i (λ same.
           false≢true (sym not_same ∙ (bytes_eq-Decides (spelled other) (spelled type)).1 (ap spelled (is_here other same))))
 
-  pub met : (o : Option ℕ) → number_of (spelled type) pairs ≡ o → (unwrap_or o i ≡ first_of types type) × Knows types (i + 1) (with_number o (spelled type) i pairs)
+  pub met : (o : Option ℕ) → value_named (spelled type) pairs ≡ o → (unwrap_or o i ≡ first_of types type) × Knows types (i + 1) (with_number o (spelled type) i pairs)
   met (Some n) e = met_again n e
   met None e = met_first e
 

@@ -1,5 +1,5 @@
 pub mod EqualTypes
-pub mod ExportLemmas
+pub mod NamedLemmas
 pub mod LeadsLemmas
 pub mod LimitLemmas
 pub mod OpenConstructLemmas

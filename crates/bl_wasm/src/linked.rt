@@ -3,8 +3,8 @@
 ghost use Rattle.std.specs.Prelude.{◌≡◌, option_copied};
 ghost use Rattle.bl_wasm.specs.Linked.{IsLinked, type_of};
 
-use crate::exports::Exports;
 use crate::module::Code;
+use crate::named::Exports;
 use bl_base::{Label, List, Text, ValueType};
 use std::marker::Model;
 

@@ -21,7 +21,7 @@ use Rattle.bl_iface.specs.JoinedProgram.{HasSameTypes, Renaming, client_numbers,
 use Rattle.bl_iface.specs.declared.iface.FnIface.{FnIface}
 use Rattle.bl_iface.specs.declared.iface.Iface.{Iface}
 use Rattle.bl_iface.proofs.JoinedReads.{stands_for}
-use Rattle.bl_wasm.specs.Exports.{number_of}
+use Rattle.bl_wasm.specs.Exports.{value_named}
 use Rattle.bl_wasm.specs.IndexMaps.{Names}
 use Rattle.bl_rename.specs.Renamings.{function_by}
 use Rattle.bl_access.proofs.Moving.{get_map}
@@ -30,7 +30,7 @@ use Rattle.bl_whole.proofs.PartTrees.{Placed, size_same, total_same, variables_s
 
 -- ---- where functions go
 
-pub exported_same : (exports : List (List ℕ × ℕ)) (name : List ℕ) → exported (map export_def exports) name ≡ number_of name exports
+pub exported_same : (exports : List (List ℕ × ℕ)) (name : List ℕ) → exported (map export_def exports) name ≡ value_named name exports
 exported_same [] name = refl
 exported_same (pair ∷ exports) name = ap (λ o. if bytes_eq name pair.0 then Some pair.1 else o) (exported_same exports name)
 
@@ -39,7 +39,7 @@ goes_by_same [] client library f = refl
 goes_by_same (one ∷ others) client library f =
     ap (λ o. if unwrap_or (option_map (nat_eq f) o) false then exported (map export_def library.exports) one.name else goes_by others (low_tree client) (low_tree library) f)
     (exported_same client.exports one.name)
-    ∙ ap₂ (λ (o r : Option ℕ). if unwrap_or (option_map (nat_eq f) (number_of one.name client.exports)) false then o else r)
+    ∙ ap₂ (λ (o r : Option ℕ). if unwrap_or (option_map (nat_eq f) (value_named one.name client.exports)) false then o else r)
     (exported_same library.exports one.name) (goes_by_same others client library f)
 
 -- ---- types

@@ -2,7 +2,7 @@
 -- the library's (after WebAssembly 1.0, section 4.5.4).
 use Rattle.std.specs.Prelude.{ℕ, ◌+◌, false, not, nat_eq, if◌then◌else◌, List, [], ◌∷◌, ◌++◌, length, map, Option, None, option_map, unwrap_or}
 use Rattle.std.specs.List.{filter}
-use Rattle.bl_wasm.specs.Exports.{Pairs, number_of}
+use Rattle.bl_wasm.specs.Exports.{Pairs, value_named}
 use Rattle.bl_wasm.specs.IndexMaps.{Names}
 use Rattle.bl_wasm.specs.declared.linked.Tree.{Tree}
 use Rattle.bl_rename.specs.Renamings.{Numbers, function_by, slots_by}
@@ -14,8 +14,8 @@ use Rattle.bl_iface.specs.declared.iface.Iface.{Iface}
 abbrev pub goes_among : List FnIface → Tree → Tree → ℕ → Option ℕ
 goes_among [] client library function = None
 goes_among (one ∷ others) client library function =
-    if unwrap_or (option_map (nat_eq function) (number_of one.name client.exports)) false
-    then number_of one.name library.exports
+    if unwrap_or (option_map (nat_eq function) (value_named one.name client.exports)) false
+    then value_named one.name library.exports
     else goes_among others client library function
 
 -- ---- new numbers

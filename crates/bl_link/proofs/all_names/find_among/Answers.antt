@@ -1,7 +1,7 @@
 use Rattle.std.proofs.Common.{◌∙◌, ap, sym, ◌+◌, drop}
 use Rattle.std.specs.Option.{option_or}
+use Rattle.bl_wasm.specs.Exports.{value_named}
 use Rattle.bl_link.specs.AllNames.{of_parts}
-use Rattle.bl_link.specs.ExportNames.{value_named}
 use Rattle.bl_link.proofs.QualifiedNames.{found_from, or_other}
 use Rattle.bl_link.proofs.all_names.find_among.Goals as goal
 

@@ -1,6 +1,6 @@
 use Rattle.std.proofs.Common.{◌≡◌, drop}
+use Rattle.bl_wasm.specs.Exports.{value_named}
 use Rattle.bl_link.specs.AllNames.{of_parts}
-use Rattle.bl_link.specs.ExportNames.{value_named}
 use Rattle.bl_link.proofs.all_names.find_among.Given as goal
 
 -- what is left decides

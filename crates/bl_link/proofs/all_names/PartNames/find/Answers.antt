@@ -1,6 +1,7 @@
 use Rattle.std.proofs.Common.{◌∙◌, ap, sym}
+use Rattle.bl_wasm.specs.Exports.{value_named}
 use Rattle.bl_link.specs.AllNames.{of_part}
-use Rattle.bl_link.specs.ExportNames.{qualified, value_named}
+use Rattle.bl_link.specs.ExportNames.{qualified}
 use Rattle.bl_link.proofs.QualifiedNames.{other_named, own_named}
 use Rattle.bl_link.proofs.all_names.PartNames.find.Goals as goal
 
