@@ -8,16 +8,19 @@ use Rattle.std.proofs.lemmas.Option.{slice_get_read}
 use Rattle.bl_base.proofs.Lists.{all_get, within_get}
 use Rattle.bl_base.specs.declared.names.Flow.{Flow}
 use Rattle.bl_base.specs.declared.names.Flow.TheVariants.{Stable, Transient}
-use Rattle.bl_cmd.specs.Layout.{first_of, params_of, results_of}
+use Rattle.bl_base.specs.declared.names.Role.{Role}
+use Rattle.bl_base.specs.declared.names.Role.TheVariants.{Client, Library}
+use Rattle.bl_cmd.specs.Layout.{first_of, param, params_of, result, results_of}
 use Rattle.bl_cmd.specs.Rules.{IsFunction, Rule2}
 use Rattle.bl_cmd.specs.Tables.{AreValues}
 use Rattle.bl_cmd.specs.declared.definitions.FunctionDef.{FunctionDef}
 use Rattle.bl_cmd.specs.declared.definitions.ProgramParts.{ProgramParts as Program}
 use Rattle.bl_cmd.proofs.Layouts.{first_below, next_first, number_is}
-use Rattle.bl_iface.specs.RoleLists.{Lists, called_from, kept_if}
+use Rattle.bl_transient.specs.declared.asked.AskedOf.{AskedOf}
+use Rattle.bl_iface.specs.RoleLists.{Adds, AreAsked, Lists, asked_from, called_from, kept_if}
 use Rattle.bl_iface.specs.JoinedProgram.{exported}
 use Rattle.bl_iface.specs.InterfaceFunctions.{AreTargets, Fits, IsMatched, Matches}
-use Rattle.bl_iface.specs.RoleTests.{is_called, is_flow}
+use Rattle.bl_iface.specs.RoleTests.{is_called, is_flow, params_called, results_called}
 use Rattle.bl_iface.specs.declared.iface.FnIface.{FnIface}
 use Rattle.bl_iface.specs.declared.iface.Iface.{Iface}
 use Rattle.bl_iface.proofs.RoleTestLemmas.{Called}
@@ -82,11 +85,11 @@ called_is flow (one ∷ others) first x =
 
 module _ (program : Program) (lists : FnIface → List Flow) (firsts : ℕ → ℕ) (flow : Flow) where
   -- the list has exactly the variables that some of these functions calls so
-  abbrev pub SoFar : List FnIface → List ℕ → Type 0
+  abbrev SoFar : List FnIface → List ℕ → Type 0
   SoFar functions called = Lists (λ x. list_any (λ one. Called program lists firsts flow one x) functions) called
 
   -- one function more
-  pub called_more : (functions : List FnIface) (index f : ℕ) (one : FnIface) (called more : List ℕ) → index < length functions → one ≡ get_or functions index one
+  called_more : (functions : List FnIface) (index f : ℕ) (one : FnIface) (called more : List ℕ) → index < length functions → one ≡ get_or functions index one
       → exported program.exports one.name ≡ Some f → more ≡ called ++ called_from flow (lists one) (firsts f) → SoFar (take index functions) called
       → SoFar (take (index + 1) functions) more
   called_more functions index f one called more lt is e added so_far x =
@@ -130,3 +133,39 @@ stands_at program iface firsts targets rule matches values are index one lt is =
     let fits : Fits program one f = known (exported program.exports one.name) f (Fits program one) (all_get (IsMatched program) iface.functions index one matches stands) named in
     let exists : f < length program.functions = are.exist index 0 (let many = are.many in omega arith) in
     record { named = named; first_is = values.each f (omega arith); params = fits.0; results = fits.1; room = room_of program f rule exists }
+
+-- ---- what a role asks of the functions so far
+
+abbrev pub AskedSoFar : Role → Iface → Program → ℕ → AskedOf → Type 0
+AskedSoFar role iface program index = AreAsked role (record { functions = take index iface.functions }) program
+
+pub asked_none : (role : Role) (iface : Iface) (program : Program) → AskedSoFar role iface program 0 (record { transient = []; stable = [] })
+asked_none Client iface program = record { transient = λ x. refl; stable = λ x. refl }
+asked_none Library iface program = record { transient = λ x. refl; stable = λ x. refl }
+
+-- one function more
+pub asked_more : (role : Role) (iface : Iface) (program : Program) (index f first : ℕ) (one : FnIface) (asked more : AskedOf) → index < length iface.functions → one ≡ get_or iface.functions index one
+    → StandsAt program one f first → Adds asked (asked_from role one first) more → AskedSoFar role iface program index asked → AskedSoFar role iface program (index + 1) more
+asked_more role iface program index f first one asked more lt is at added so_far = by role added so_far
+  where
+    params : (flow : Flow) (old new : List ℕ) → new ≡ old ++ called_from flow one.params first → Lists (params_called flow (record { functions = take index iface.functions }) program) old
+        → Lists (params_called flow (record { functions = take (index + 1) iface.functions }) program) new
+    params flow old new e =
+        let place : first ≡ param program f 0 = let is = at.first_is in omega arith in
+        called_more program (λ (one : FnIface). one.params) (λ f. param program f 0) flow iface.functions index f one old new lt is at.named (e ∙ ap (λ x. old ++ called_from flow one.params x) place)
+
+    results : (flow : Flow) (old new : List ℕ) → new ≡ old ++ called_from flow one.results (first + length one.params)
+        → Lists (results_called flow (record { functions = take index iface.functions }) program) old → Lists (results_called flow (record { functions = take (index + 1) iface.functions }) program) new
+    results flow old new e =
+        let place : first + length one.params ≡ result program f 0 = let is = at.first_is in let params = at.params in omega arith in
+        called_more program (λ (one : FnIface). one.results) (λ f. result program f 0) flow iface.functions index f one old new lt is at.named (e ∙ ap (λ x. old ++ called_from flow one.results x) place)
+
+    by : (role : Role) → Adds asked (asked_from role one first) more → AskedSoFar role iface program index asked → AskedSoFar role iface program (index + 1) more
+    by Client added so_far = record {
+      transient = results Transient asked.transient more.transient added.0 so_far.transient;
+      stable = params Stable asked.stable more.stable added.1 so_far.stable;
+    }
+    by Library added so_far = record {
+      transient = params Transient asked.transient more.transient added.0 so_far.transient;
+      stable = results Stable asked.stable more.stable added.1 so_far.stable;
+    }

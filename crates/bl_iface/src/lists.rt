@@ -5,11 +5,11 @@ ghost use Rattle.bl_cmd.specs.Layout.{first_of};
 ghost use Rattle.bl_cmd.specs.Rules.{Rule2};
 ghost use Rattle.bl_cmd.specs.Tables.{AreValues};
 ghost use Rattle.bl_graph.specs.Ranges.{variables};
-ghost use Rattle.bl_iface.specs.RoleLists.{AreAsked, Lists, called_from, kept_if};
+ghost use Rattle.bl_iface.specs.RoleLists.{Adds, AreAsked, asked_from, called_from, kept_if};
 ghost use Rattle.bl_iface.specs.InterfaceFunctions.{AreTargets, Matches};
-ghost use Rattle.bl_iface.specs.RoleTests.{is_flow, params_called, results_called};
+ghost use Rattle.bl_iface.specs.RoleTests.{is_flow};
 
-use crate::iface::Iface;
+use crate::iface::{FnIface, Iface};
 use crate::matching::matched;
 use bl_base::{Flow, List, NoMemory, Role};
 use bl_cmd::{ProgramParts, WellFormed, firsts_of};
@@ -59,64 +59,32 @@ fn asked_at(
     requires targets { AreTargets parts.now iface.now targets.now }
     ensures { IfOk result (AreAsked role iface.now parts.now) }
 {
-    match role {
-        Role::Client => {
-            let transient = results_called(alloc, Flow::Transient, parts, iface, firsts, targets)?;
-            let stable = params_called(alloc, Flow::Stable, parts, iface, firsts, targets)?;
-            Ok(AskedOf { transient, stable })
-        }
-        Role::Library => {
-            let transient = params_called(alloc, Flow::Transient, parts, iface, firsts, targets)?;
-            let stable = results_called(alloc, Flow::Stable, parts, iface, firsts, targets)?;
-            Ok(AskedOf { transient, stable })
-        }
-    }
-}
-
-/// The parameters that an interface calls so.
-fn params_called(
-    alloc: Global,
-    flow: Flow,
-    parts: &ProgramParts,
-    iface: &Iface,
-    firsts: &[u32],
-    targets: &[u32],
-) -> Result<List<u32>, NoMemory>
-    requires rule { Rule2 parts.now }
-    requires matches { Matches parts.now iface.now }
-    requires firsts { AreValues (first_of parts.now) (length parts.now.functions) firsts.now }
-    requires targets { AreTargets parts.now iface.now targets.now }
-    ensures { IfOk result (Lists (params_called flow iface.now parts.now)) }
-{
-    let mut called = List::new(alloc);
+    let mut asked = AskedOf::nothing(alloc);
     for (index, one) in iface.functions.as_slice().iter().enumerate() {
         let first = firsts[targets[index] as usize];
-        push_called(&mut called, flow, one.params.as_slice(), first)?;
+        push_asked(&mut asked, role, one, first)?;
     }
-    Ok(called)
+    Ok(asked)
 }
 
-/// The results that an interface calls so.
-fn results_called(
-    alloc: Global,
-    flow: Flow,
-    parts: &ProgramParts,
-    iface: &Iface,
-    firsts: &[u32],
-    targets: &[u32],
-) -> Result<List<u32>, NoMemory>
-    requires rule { Rule2 parts.now }
-    requires matches { Matches parts.now iface.now }
-    requires firsts { AreValues (first_of parts.now) (length parts.now.functions) firsts.now }
-    requires targets { AreTargets parts.now iface.now targets.now }
-    ensures { IfOk result (Lists (results_called flow iface.now parts.now)) }
+/// Appends what a role asks of a function of the interface with that first variable.
+fn push_asked(to: &mut AskedOf, role: Role, one: &FnIface, first: u32) -> Result<(), NoMemory>
+    requires { first + length one.now.params + length one.now.results < 2 ^ 32 }
+    ensures { OnOk result (Adds to.old (asked_from role one.now first) to.new) }
 {
-    let mut called = List::new(alloc);
-    for (index, one) in iface.functions.as_slice().iter().enumerate() {
-        let first = firsts[targets[index] as usize] + one.params.len() as u32;
-        push_called(&mut called, flow, one.results.as_slice(), first)?;
+    let params = one.params.as_slice();
+    let results = one.results.as_slice();
+    let behind = first + params.len() as u32;
+    match role {
+        Role::Client => {
+            push_called(&mut to.transient, Flow::Transient, results, behind)?;
+            push_called(&mut to.stable, Flow::Stable, params, first)
+        }
+        Role::Library => {
+            push_called(&mut to.transient, Flow::Transient, params, first)?;
+            push_called(&mut to.stable, Flow::Stable, results, behind)
+        }
     }
-    Ok(called)
 }
 
 /// Appends the variables that are called so, of those that begin at the first.
