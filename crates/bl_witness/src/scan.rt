@@ -12,7 +12,7 @@ use bl_base::{List, NoMemory, Pos};
 use json::{Reader, Token};
 use std::alloc::Global;
 
-/// What is read of a value's tokens, where the value is one.
+/// What a JSON value may be. It is read of the value's tokens, and the value is not kept.
 pub(crate) trait Shape: Drop {
     /// What a value is.
     ghost shape: { Data → Option Self };
