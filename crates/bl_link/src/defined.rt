@@ -66,27 +66,6 @@ fn global(
     }
 }
 
-/// The globals that a part defines, the first one with that index in the part.
-fn globals(
-    alloc: Global,
-    before: &[bl_wasm::Global],
-    marks: &Marks,
-    spaces: &Spaces,
-    imported: u32,
-    defined: &[DefinedGlobal],
-) -> Result<List<bl_wasm::Global>, NoMemory>
-    requires { imported + length defined.now < 2 ^ 32 }
-    ensures { IfOk result (λ all. all ≡ map (global_of before.now marks.now spaces.now) (enumerate_from imported defined.now)) }
-{
-    let mut globals = List::new(alloc);
-    let mut at = imported;
-    for one in defined {
-        globals.push(global(before, marks, spaces, at, one))?;
-        at += 1;
-    }
-    Ok(globals)
-}
-
 /// The globals behind those of the parts before, whose initial values they may have.
 pub(crate) fn with_globals(
     alloc: Global,
@@ -99,10 +78,14 @@ pub(crate) fn with_globals(
     requires { imported + length defined.now < 2 ^ 32 }
     ensures { IfOk result (λ all. all ≡ before ++ map (global_of before marks.now spaces.now) (enumerate_from imported defined.now)) }
 {
-    let more = globals(alloc, before.as_slice(), marks, spaces, imported, defined)?;
+    let mut more = Vec::new(alloc);
+    let mut at = imported;
+    for one in defined {
+        more.push(global(before.as_slice(), marks, spaces, at, one))?;
+        at += 1;
+    }
     let mut cells = before.into_vec();
-    let mut new = more.into_vec();
-    cells.append(&mut new)?;
+    cells.append(&mut more)?;
     Ok(List::of(cells))
 }
 
