@@ -1,14 +1,10 @@
 //! Laws of users that are linked over a stub, and over the library that it stands for. Each function is its contract alone.
 ghost use Rattle.std.specs.Prelude.{◌≡◌, ◌++◌, ℕ, List as Listed, Ok};
 ghost use Rattle.std.specs.List.{All};
-ghost use Rattle.bl_base.specs.Runs.{Outcome};
-ghost use Rattle.bl_base.specs.declared.start.Start.{Start};
-ghost use Rattle.bl_wasm.specs.Linked.{IsLinked};
-ghost use Rattle.bl_wasm.specs.declared.linked.Tree.{Tree};
+ghost use Rattle.bl_base.specs.{Runs.Outcome, declared.start.Start.Start};
+ghost use Rattle.bl_wasm.specs.{Linked.IsLinked, declared.linked.Tree.Tree};
 ghost use Rattle.bl_reduce.specs.Outcomes.{IsStart, source};
-ghost use Rattle.bl_link.specs.Linkable.{AreParts, IsSound};
-ghost use Rattle.bl_link.specs.Links.{links};
-ghost use Rattle.bl_link.specs.declared.part.Part.{Part};
+ghost use Rattle.bl_link.specs.{Linkable.AreParts, Linkable.IsSound, Links.links, declared.part.Part.Part};
 ghost use Rattle.bl_iface.specs.declared.iface.Iface.{Iface};
 ghost use Rattle.bl_rename.specs.Renamings.{Alike, Renames, start_by};
 ghost use Rattle.bl_whole.specs.JoinedTree.{client_numbers, joined_tree};

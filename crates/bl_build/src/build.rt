@@ -4,12 +4,10 @@ ghost use Rattle.bl_base.specs.Quantity.{limit_of};
 ghost use Rattle.bl_base.specs.declared.quantity.Quantity.TheVariants as quantity;
 ghost use Rattle.bl_build.specs.BuildStages.{building, compiling, lowering, sizing, without_image};
 ghost use Rattle.bl_format.specs.Image.{Image};
-ghost use Rattle.bl_build.specs.LoadStages.{AreShort, parts_of};
+ghost use Rattle.bl_build.specs.{LoadStages.AreShort, LoadStages.parts_of, StageAnswers.built_in};
 ghost use Rattle.bl_text.specs.Names.{AreNamedApart};
 ghost use Rattle.bl_build.specs.WeightStages.{building_by, compiling_by, counted_sources, weighing};
-ghost use Rattle.bl_job.specs.Stages.{chain};
-ghost use Rattle.bl_job.specs.WorkAnswers.{IsStaged, contents_in};
-ghost use Rattle.bl_build.specs.StageAnswers.{built_in};
+ghost use Rattle.bl_job.specs.{Stages.chain, WorkAnswers.IsStaged, WorkAnswers.contents_in};
 
 use crate::counts::weighed;
 use crate::loading::load;

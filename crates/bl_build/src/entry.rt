@@ -2,8 +2,7 @@
 ghost use Rattle.std.specs.Prelude.{◌≡◌, ◌<◌, IfOk, MatchOption, None, Some, length};
 ghost use Rattle.bl_cmd.specs.Outcomes.{IsStart};
 ghost use Rattle.bl_build.specs.EntryStages.{Finds, broken_rule, finding, function_named, imaging, kinds_of, pages_of, starting};
-ghost use Rattle.bl_job.specs.Stages.{chain};
-ghost use Rattle.bl_job.specs.WorkAnswers.{IsStaged, IsTold};
+ghost use Rattle.bl_job.specs.{Stages.chain, WorkAnswers.IsStaged, WorkAnswers.IsTold};
 ghost use Rattle.bl_build.specs.StageAnswers.{defined_in, entered_in, entry_in, found_in, refusal_of_image};
 
 use crate::start::{no_export, of_start};

@@ -2,12 +2,10 @@
 ghost use Rattle.std.specs.Prelude.{◌≡◌, ◌≤◌, IfOk, length, map};
 ghost use Rattle.bl_base.specs.Quantity.{limit_of};
 ghost use Rattle.bl_base.specs.declared.quantity.Quantity.TheVariants as quantity;
-ghost use Rattle.bl_build.specs.HardenStage.{IsHardened, hardening};
-ghost use Rattle.bl_build.specs.LoadStages.{AreShort, parts_of};
+ghost use Rattle.bl_build.specs.{HardenStage.IsHardened, HardenStage.hardening, LoadStages.AreShort, LoadStages.parts_of};
 ghost use Rattle.bl_text.specs.Names.{AreNamedApart};
-ghost use Rattle.bl_build.specs.WeightStages.{counted_sources, hardening_by};
+ghost use Rattle.bl_build.specs.{WeightStages.counted_sources, WeightStages.hardening_by, StageAnswers.hardened_in};
 ghost use Rattle.bl_job.specs.WorkAnswers.{IsStaged, contents_in};
-ghost use Rattle.bl_build.specs.StageAnswers.{hardened_in};
 
 use crate::build::{compile_program, compile_program_by};
 use bl_base::{NoMemory, Text};

@@ -2,9 +2,8 @@
 ghost use Rattle.std.specs.Prelude.{◌≡◌, ◌<◌, IfOk, Some, length};
 ghost use Rattle.bl_wasm.specs.Linked.{IsLinked, type_of};
 ghost use Rattle.bl_reduce.specs.Outcomes.{IsStart};
-ghost use Rattle.bl_build.specs.InvocationStages.{invoking, sizes_of};
+ghost use Rattle.bl_build.specs.{InvocationStages.invoking, InvocationStages.sizes_of, StageAnswers.invoked_in};
 ghost use Rattle.bl_job.specs.WorkAnswers.{IsStaged};
-ghost use Rattle.bl_build.specs.StageAnswers.{invoked_in};
 
 use crate::start::{no_export, of_start};
 use bl_base::{NoMemory, Start};

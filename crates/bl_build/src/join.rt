@@ -1,13 +1,9 @@
 //! A client and a library joined by the bytes of their images and of an interface file.
-ghost use Rattle.std.specs.Prelude.{IfOk};
-ghost use Rattle.std.specs.List.{All};
+ghost use Rattle.std.specs.{Prelude.IfOk, List.All};
 ghost use Rattle.bl_build.specs.StageAnswers.{FindsFailing, IsWhole, refusal_of_join, sides_in, union_in};
 ghost use Rattle.bl_build.specs.JoinStages.{joining, matching_both, pair_joining, pair_of, typing, uniting, with_library};
-ghost use Rattle.bl_iface.specs.Answers.{JoinAnswers};
-ghost use Rattle.bl_iface.specs.JoinedProgram.{HasSameTypes};
-ghost use Rattle.bl_iface.specs.InterfaceFunctions.{Matches};
-ghost use Rattle.bl_job.specs.Stages.{chain};
-ghost use Rattle.bl_job.specs.WorkAnswers.{IsStaged, IsTold};
+ghost use Rattle.bl_iface.specs.{Answers.JoinAnswers, JoinedProgram.HasSameTypes, InterfaceFunctions.Matches};
+ghost use Rattle.bl_job.specs.{Stages.chain, WorkAnswers.IsStaged, WorkAnswers.IsTold};
 
 use crate::build::{Built, sized};
 use crate::entry::read_image;

@@ -1,30 +1,21 @@
 //! Laws of the stages. Each function is its contract alone.
 ghost use Rattle.std.specs.Prelude.{ℕ, Bool, List as Listed};
 ghost use Rattle.bl_base.specs.declared.names.Role.{Role};
-ghost use Rattle.bl_cmd.specs.Programs.{IsProgram};
-ghost use Rattle.bl_cmd.specs.Rules.{IsWellFormed};
-ghost use Rattle.bl_cmd.specs.declared.definitions.ProgramParts.{ProgramParts as Program};
-ghost use Rattle.bl_ct.specs.Verdicts.{Judges as JudgesLabels};
-ghost use Rattle.bl_ct.specs.declared.verdict.CtVerdict.{CtVerdict};
+ghost use Rattle.bl_cmd.specs.{Programs.IsProgram, Rules.IsWellFormed, declared.definitions.ProgramParts.ProgramParts as Program};
+ghost use Rattle.bl_ct.specs.{Verdicts.Judges as JudgesLabels, declared.verdict.CtVerdict.CtVerdict};
 ghost use Rattle.bl_graph.specs.declared.certificate.Certificate.{Certificate};
-ghost use Rattle.bl_transient.specs.Verdicts.{Judges as JudgesFlow};
-ghost use Rattle.bl_transient.specs.declared.transient.FlowVerdict.{FlowVerdict};
-ghost use Rattle.bl_witness.specs.Texts.{certificate_text};
-ghost use Rattle.bl_witness.specs.Verdicts.{Checks};
-ghost use Rattle.bl_witness.specs.declared.verdict.CertVerdict.{CertVerdict};
+ghost use Rattle.bl_transient.specs.{Verdicts.Judges as JudgesFlow, declared.transient.FlowVerdict.FlowVerdict};
+ghost use Rattle.bl_witness.specs.{Texts.certificate_text, Verdicts.Checks, declared.verdict.CertVerdict.CertVerdict};
 ghost use Rattle.bl_format.specs.Image.{Image};
 ghost use Rattle.bl_wasm.specs.Linked.{IsLinked};
 ghost use Rattle.bl_build.specs.BuildStages.{AreCompilable, compiling, lowering, sizing};
-ghost use Rattle.bl_build.specs.CertificateStages.{certifying, verifying};
+ghost use Rattle.bl_build.specs.{CertificateStages.certifying, CertificateStages.verifying, HardenStage.Hardened, HardenStage.IsHardened};
 ghost use Rattle.bl_build.specs.EntryStages.{finding, imaging, starting};
 ghost use Rattle.bl_build.specs.InterfaceStages.{IsMatchable, choosing, matching, reading};
 ghost use Rattle.bl_build.specs.JoinStages.{AreMatchable, typing, uniting};
-ghost use Rattle.bl_build.specs.HardenStage.{Hardened, IsHardened};
 ghost use Rattle.bl_build.specs.LoadStages.{AreLoadable, decoding, labelling, linking, loading, validation};
-ghost use Rattle.bl_build.specs.InvocationStages.{invoking};
+ghost use Rattle.bl_build.specs.{InvocationStages.invoking, TraceStages.tracing, WeightStages.compiling_by, WeightStages.weighing};
 ghost use Rattle.bl_job.specs.Stages.{Anything, IsLawfulStage, IsTotalStage};
-ghost use Rattle.bl_build.specs.TraceStages.{tracing};
-ghost use Rattle.bl_build.specs.WeightStages.{compiling_by, weighing};
 
 /// Each of these stages makes one thing of a value, or refuses it for one reason, and never both: those of which the commands' chains consist, and
 /// the chains that load and compile modules.

@@ -7,9 +7,7 @@ ghost use Rattle.bl_base.specs.declared.quantity.Quantity.TheVariants as quantit
 ghost use Rattle.bl_wasm.specs.Validity.{functions_of};
 ghost use Rattle.bl_decode.specs.DecoderAnswers.{Answers};
 ghost use Rattle.bl_labels.specs.Faults.{IsConsistent};
-ghost use Rattle.bl_link.specs.Faults.{NamesPart};
-ghost use Rattle.bl_link.specs.Linkable.{AreParts};
-ghost use Rattle.bl_link.specs.Links.{part_of};
+ghost use Rattle.bl_link.specs.{Faults.NamesPart, Linkable.AreParts, Links.part_of};
 ghost use Rattle.bl_build.specs.LoadStages.{AreShort, bad_import, bad_labels, decoding, invalid_function, labelling, linked_parts, linking, loading, parts_of, validation};
 ghost use Rattle.bl_text.specs.Names.{AreNamedApart, module_name as name_of};
 ghost use Rattle.bl_job.specs.Stages.{each};

@@ -1,8 +1,7 @@
 //! From the bytes of an image to an exported function of its program, with the directives of a trace file and a start.
 ghost use Rattle.std.specs.Prelude.{IfOk};
-ghost use Rattle.bl_build.specs.TraceStages.{speculating};
+ghost use Rattle.bl_build.specs.{TraceStages.speculating, StageAnswers.IsPrepared, StageAnswers.speculated_in};
 ghost use Rattle.bl_job.specs.WorkAnswers.{IsStaged};
-ghost use Rattle.bl_build.specs.StageAnswers.{IsPrepared, speculated_in};
 
 use crate::directives::read_directives;
 use crate::entry::find_export;

@@ -1,8 +1,7 @@
 //! Exports that are absent, and start files that give no start.
 ghost use Rattle.std.specs.Prelude.{Some};
-ghost use Rattle.bl_build.specs.EntryStages.{no_export};
+ghost use Rattle.bl_build.specs.{EntryStages.no_export, StageAnswers.refusal_of_start};
 ghost use Rattle.bl_job.specs.WorkAnswers.{IsTold};
-ghost use Rattle.bl_build.specs.StageAnswers.{refusal_of_start};
 
 use bl_job::{Reason, WorkError, refused, refused_at};
 use bl_trace::StartError;

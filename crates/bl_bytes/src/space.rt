@@ -1,7 +1,6 @@
 //! A memory: pages of bytes.
 ghost use Rattle.std.specs.Prelude.{◌≡◌, ◌+◌, ◌*◌, ◌^◌, ◌<◌, ◌≤◌, ◌++◌, OnOk, length, replicate};
-ghost use Rattle.bl_base.specs.Bytes.{bytes_of, write};
-ghost use Rattle.bl_base.specs.Runs.{memory_of};
+ghost use Rattle.bl_base.specs.{Bytes.bytes_of, Bytes.write, Runs.memory_of};
 ghost use Rattle.bl_ops.specs.Access.{narrowed, width_of};
 ghost use Rattle.bl_bytes.specs.Overlays.{loaded};
 

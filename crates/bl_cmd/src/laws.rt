@@ -1,9 +1,7 @@
 //! Laws of plain runs. Each function is its contract alone.
 ghost use Rattle.std.specs.Prelude.{◌≡◌, ℕ};
-ghost use Rattle.bl_base.specs.Runs.{Outcome};
-ghost use Rattle.bl_base.specs.declared.start.Start.{Start};
-ghost use Rattle.bl_cmd.specs.Outcomes.{plain};
-ghost use Rattle.bl_cmd.specs.declared.definitions.ProgramParts.{ProgramParts};
+ghost use Rattle.bl_base.specs.{Runs.Outcome, declared.start.Start.Start};
+ghost use Rattle.bl_cmd.specs.{Outcomes.plain, declared.definitions.ProgramParts.ProgramParts};
 
 /// A run of a function from a start has one outcome and one number of commands.
 pub fn one_outcome()

@@ -1,8 +1,7 @@
 //! The rules on the whole program: its memories, functions, globals and exports, its demands and weights.
 ghost use Rattle.std.specs.Prelude.{◌≡◌, ◌≤◌, ◌<◌, ◌*◌, ◌^◌, ◌↔◌, IfOk, IsTrue, MatchOption, length};
 ghost use Rattle.std.specs.List.{All, AllPairs};
-ghost use Rattle.bl_base.specs.Fits.{ArgumentFits};
-ghost use Rattle.bl_base.specs.Quantity.{limit_of};
+ghost use Rattle.bl_base.specs.{Fits.ArgumentFits, Quantity.limit_of};
 ghost use Rattle.bl_base.specs.declared.quantity.Quantity.TheVariants as quantity;
 ghost use Rattle.bl_cmd.specs.Layout.{first_of, sum_before};
 ghost use Rattle.bl_cmd.specs.Rules.{IsDemand, IsFunction, IsMemory, IsRow, IsWeight, Precedes, Rule2, Rule3, Rule9};

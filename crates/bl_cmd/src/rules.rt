@@ -1,12 +1,9 @@
 //! The rules on one command: which variables it may name, where it may go, whether the numbers that it names are in range, and
 //! what has to stand before an access and before a write of a size.
 ghost use Rattle.std.specs.Prelude.{◌≡◌, ◌≢◌, ◌<◌, ◌≤◌, ◌+◌, ◌↔◌, ℕ, suc, IfSome, IsTrue, MatchOption, Some, length};
-ghost use Rattle.bl_cmd.specs.Layout.{entry_of};
+ghost use Rattle.bl_cmd.specs.{Layout.entry_of, Sites.Among, Verdicts.BreaksRule, Verdicts.KeepsRules, declared.command.Mark.Mark};
 ghost use Rattle.bl_cmd.specs.Rules.{GoesTo, IsGrowth, IsReadable, IsSum, IsTested, IsWritable, Leaves, Rule4, Rule5, Rule6, Rule7, Rule8, assign, assigned_by, branch, operands_of};
-ghost use Rattle.bl_cmd.specs.Sites.{Among};
 ghost use Rattle.bl_cmd.specs.Tables.{HasTargets, IsApart, IsGrownAlone, IsGrownBy, IsPlace, IsTarget, IsTestedBy, ReadsEach};
-ghost use Rattle.bl_cmd.specs.Verdicts.{BreaksRule, KeepsRules};
-ghost use Rattle.bl_cmd.specs.declared.command.Mark.{Mark};
 
 use crate::command::{Command, Mark, Operand};
 use crate::place::Place;

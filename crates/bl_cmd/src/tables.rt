@@ -1,9 +1,6 @@
 //! The tables with which a program's commands are checked.
 ghost use Rattle.std.specs.Prelude.{◌≡◌, ◌<◌, ◌^◌, IfOk, None, length, replicate};
-ghost use Rattle.bl_cmd.specs.Layout.{first_of, entry_of};
-ghost use Rattle.bl_cmd.specs.Programs.{IsProgram};
-ghost use Rattle.bl_cmd.specs.Rules.{Rule2};
-ghost use Rattle.bl_cmd.specs.Tables.{AreTables, AreValues};
+ghost use Rattle.bl_cmd.specs.{Layout.first_of, Layout.entry_of, Programs.IsProgram, Rules.Rule2, Tables.AreTables, Tables.AreValues};
 ghost use Rattle.bl_cmd.specs.Entrants.{AreEntrants, joined, with_entrant, with_entrants};
 
 use crate::command::Command;

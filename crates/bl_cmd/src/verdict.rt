@@ -1,8 +1,6 @@
 //! Whether a program is well-formed, and which rule it breaks first.
 ghost use Rattle.std.specs.Prelude.{◌≡◌, ◌≤◌, ◌<◌, ℕ, IfOk, IfErr, MatchOption, length};
-ghost use Rattle.bl_cmd.specs.Programs.{IsProgram};
-ghost use Rattle.bl_cmd.specs.Rules.{IsWellFormed};
-ghost use Rattle.bl_cmd.specs.Tables.{AreTables};
+ghost use Rattle.bl_cmd.specs.{Programs.IsProgram, Rules.IsWellFormed, Tables.AreTables};
 ghost use Rattle.bl_cmd.specs.Verdicts.{IsFault, IsFaultIn, IsReason, IsVerdict, KeepsBelow, KeepsParts};
 
 use crate::definitions::ProgramParts;

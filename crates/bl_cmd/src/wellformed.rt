@@ -1,7 +1,6 @@
 //! Well-formed programs.
 ghost use Rattle.std.specs.Prelude.{◌≡◌};
-ghost use Rattle.bl_cmd.specs.Programs.{IsProgram};
-ghost use Rattle.bl_cmd.specs.Rules.{IsWellFormed};
+ghost use Rattle.bl_cmd.specs.{Programs.IsProgram, Rules.IsWellFormed};
 
 use crate::definitions::ProgramParts;
 use crate::program::Program;

@@ -1,11 +1,9 @@
 //! Expressions (WebAssembly 1.0, section 5.4.6).
 ghost use Rattle.std.specs.Prelude.{◌≡◌, ◌≤◌, ◌↔◌, [], Some, None, List as Listed, length, reverse, IsTrue, IsErrOf, OnOk};
 ghost use Rattle.std.specs.Option.{option_map};
-ghost use Rattle.bl_wasm.specs.Instructions.{expression};
-ghost use Rattle.bl_wasm.specs.declared.instruction.Instr.TheVariants.{End};
+ghost use Rattle.bl_wasm.specs.{Instructions.expression, declared.instruction.Instr.TheVariants.End};
 ghost use Rattle.bl_wasm.specs.OpenConstructs.{Construct, open_behind};
-ghost use Rattle.bl_code.specs.Constructs.{kept};
-ghost use Rattle.bl_code.specs.ReaderAnswers.{Reads};
+ghost use Rattle.bl_code.specs.{Constructs.kept, ReaderAnswers.Reads};
 
 use crate::error::CodeError;
 use crate::instruction::read_instr;

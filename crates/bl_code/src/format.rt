@@ -2,8 +2,7 @@
 ghost use Rattle.std.specs.Prelude.{◌≡◌, ◌≤◌, ℕ, List as Listed, length};
 ghost use Rattle.bl_leb.specs.Grammar.{given};
 ghost use Rattle.bl_wasm.specs.Values.{each, vec, sized};
-ghost use Rattle.bl_code.specs.ReaderAnswers.{Reads};
-ghost use Rattle.bl_code.specs.Unique.{PrefixFree};
+ghost use Rattle.bl_code.specs.{ReaderAnswers.Reads, Unique.PrefixFree};
 
 use crate::error::CodeError;
 use crate::values::read_u32;

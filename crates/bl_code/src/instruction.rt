@@ -1,13 +1,10 @@
 //! Instructions (WebAssembly 1.0, section 5.4).
 ghost use Rattle.std.specs.Prelude.{◌≡◌, ◌≤◌, ℕ, List as Listed, [], ◌∷◌, length, IfSome, IfNone};
 ghost use Rattle.bl_ops.specs.Access.{access_code};
-ghost use Rattle.bl_wasm.specs.Codes.{float_access_code};
-ghost use Rattle.bl_wasm.specs.Types.{block_type};
-ghost use Rattle.bl_wasm.specs.Values.{u32};
-ghost use Rattle.bl_wasm.specs.Instructions.{instruction, memory_argument};
+ghost use Rattle.bl_wasm.specs.{Codes.float_access_code, Types.block_type, Values.u32};
+ghost use Rattle.bl_wasm.specs.{Instructions.instruction, Instructions.memory_argument, declared.instruction.Instr.Instr};
 ghost use Rattle.bl_code.specs.ReaderAnswers.{Finds, Reads, behind};
 ghost use Rattle.bl_code.specs.Shapes.{IsTypedCode, IsIndexedCode, IsAccessCode, IsZeroCode, IsOtherCode, IsNumericCode};
-ghost use Rattle.bl_wasm.specs.declared.instruction.Instr.{Instr};
 ghost use Rattle.bl_wasm.specs.declared.types.BlockType.{BlockType};
 
 use crate::error::{CodeError, Malformed};

@@ -1,7 +1,6 @@
 //! Laws of the grammar. Each function is its contract alone.
 ghost use Rattle.std.specs.Prelude.{◌≡◌, ℕ, List};
-ghost use Rattle.bl_wasm.specs.Instructions.{instruction, expression};
-ghost use Rattle.bl_wasm.specs.declared.instruction.Instr.{Instr};
+ghost use Rattle.bl_wasm.specs.{Instructions.instruction, Instructions.expression, declared.instruction.Instr.Instr};
 ghost use Rattle.bl_code.specs.ReaderAnswers.{IsAt};
 
 /// At a place of bytes at most one instruction begins, and it ends at one place.

@@ -1,8 +1,7 @@
 //! Types (WebAssembly 1.0, section 5.3).
 ghost use Rattle.std.specs.Prelude.{◌≡◌, ◌≤◌, ℕ, List, [], ◌∷◌, length, IfSome, IfNone};
 ghost use Rattle.bl_wasm.specs.Types.{value_type, block_type, limits};
-ghost use Rattle.bl_code.specs.ReaderAnswers.{Finds, behind};
-ghost use Rattle.bl_code.specs.Types.{maximum, type_index};
+ghost use Rattle.bl_code.specs.{ReaderAnswers.Finds, ReaderAnswers.behind, Types.maximum, Types.type_index};
 
 use crate::error::Malformed;
 use crate::values::{read_byte, read_u32};

@@ -1,8 +1,7 @@
 //! Count files.
 ghost use Rattle.std.specs.Prelude.{◌≡◌, ◌<◌, ◌++◌, ◌^◌, IfOk, IfSome};
 ghost use Rattle.std.specs.List.{All, flat_map};
-ghost use Rattle.bl_text.specs.Items.{items_of};
-ghost use Rattle.bl_text.specs.Lines.{lines_of};
+ghost use Rattle.bl_text.specs.{Items.items_of, Lines.lines_of};
 ghost use Rattle.bl_counts.specs.CountFiles.{IsCountFile, commands_of, count_file_of, counts_text, site_in, site_of, site_text, with_commands};
 
 use crate::counts::SiteCount;

@@ -1,8 +1,7 @@
 //! Where variables may not be secret.
 ghost use Rattle.std.specs.Prelude.{◌≡◌, ◌<◌, ◌^◌, ◌↔◌, ℕ, All, AllPairs, Contains, IsTrue, IfOk, length};
-ghost use Rattle.bl_graph.specs.Secrets.{Demands};
+ghost use Rattle.bl_graph.specs.{Secrets.Demands, Arcs.is_in};
 ghost use Rattle.bl_ct.specs.Facts.{IsKnown};
-ghost use Rattle.bl_graph.specs.Arcs.{is_in};
 ghost use Rattle.bl_ct.specs.SecretSearch.{AreEnds, MarksWriters, IsNoted, IsTable, KeptAt, mark_of};
 
 use crate::facts::{Known, command_count};

@@ -1,12 +1,8 @@
 //! What a program declares secret, and where it has to be public.
 ghost use Rattle.std.specs.Prelude.{◌≡◌, ◌↔◌, ◌+◌, ◌++◌, ◌<◌, ◌^◌, ℕ, IfOk, IsSomeAnd, IsTrue, OnOk, Some, [], length, map, option_map, slice_get};
 ghost use Rattle.bl_base.specs.declared.names.Label.TheVariants as label_is;
-ghost use Rattle.bl_cmd.specs.Layout.{params_of, statics};
-ghost use Rattle.bl_cmd.specs.Programs.{IsProgram};
-ghost use Rattle.bl_cmd.specs.Rules.{IsDemand, IsWellFormed};
-ghost use Rattle.bl_cmd.specs.Sites.{Names};
-ghost use Rattle.bl_graph.specs.FirstVariables.{firsts_from};
-ghost use Rattle.bl_graph.specs.Ranges.{commands};
+ghost use Rattle.bl_cmd.specs.{Layout.params_of, Layout.statics, Programs.IsProgram, Rules.IsDemand, Rules.IsWellFormed, Sites.Names};
+ghost use Rattle.bl_graph.specs.{FirstVariables.firsts_from, Ranges.commands};
 ghost use Rattle.bl_graph.specs.Secrets.{GivesPublic, TakesSecret, demanded_by};
 ghost use Rattle.bl_ct.specs.Facts.{AreFacts, DeclaresOne, Gathers, GlobalFits, LoadFits, ParamFits, SomeAt, StoreFits, vars_of};
 

@@ -1,11 +1,8 @@
 //! Laws of labellings and secret chains. Each function is its contract alone.
 ghost use Rattle.std.specs.Prelude.{◌⊎◌, ◌↔◌, ℕ, Bool, IsTrue};
-ghost use Rattle.bl_cmd.specs.Programs.{IsProgram};
-ghost use Rattle.bl_cmd.specs.Rules.{IsWellFormed};
-ghost use Rattle.bl_cmd.specs.declared.definitions.ProgramParts.{ProgramParts};
+ghost use Rattle.bl_cmd.specs.{Programs.IsProgram, Rules.IsWellFormed, declared.definitions.ProgramParts.ProgramParts};
 ghost use Rattle.bl_graph.specs.Labels.{AssignsLabels, ConstantTime, Secret};
-ghost use Rattle.bl_graph.specs.SecretChains.{IsSecretChain};
-ghost use Rattle.bl_graph.specs.declared.secret.SecretChain.{SecretChain};
+ghost use Rattle.bl_graph.specs.{SecretChains.IsSecretChain, declared.secret.SecretChain.SecretChain};
 
 /// Where there is a secret chain, no labelling keeps the label rules.
 pub fn chains_exclude_labellings()

@@ -1,9 +1,8 @@
 //! The search for secret variables.
 ghost use Rattle.std.specs.Prelude.{◌≡◌, ◌<◌, ◌↔◌, ℕ, All, AllPairs, Contains, IfOk, OnOk, Some, length, map};
 ghost use Rattle.bl_cmd.specs.Sites.{Reads, Writes};
-ghost use Rattle.bl_graph.specs.Names.{place_of};
+ghost use Rattle.bl_graph.specs.{Names.place_of, Arcs.row_at, Arcs.rows_in};
 ghost use Rattle.bl_ct.specs.Facts.{IsKnown};
-ghost use Rattle.bl_graph.specs.Arcs.{row_at, rows_in};
 ghost use Rattle.bl_ct.specs.SecretSearch.{IsFoundBy, IsTable, Searched, Some_asks, Some_fits, Visits, entry_at, from_name};
 ghost use Rattle.bl_ct.specs.declared.search.Cause.TheVariants as cause_;
 

@@ -1,13 +1,10 @@
 //! Whether a program is constant time.
 ghost use Rattle.std.specs.Prelude.{◌≡◌, ◌<◌, ℕ, All, Contains, IfOk, length, option_map, replicate};
 ghost use Rattle.bl_base.specs.declared.names.Label.TheVariants as label;
-ghost use Rattle.bl_graph.specs.Graphs.{IsGraph};
-ghost use Rattle.bl_graph.specs.SecretChains.{IsSecretChain};
-ghost use Rattle.bl_ct.specs.Facts.{IsKnown};
+ghost use Rattle.bl_graph.specs.{Graphs.IsGraph, SecretChains.IsSecretChain};
+ghost use Rattle.bl_ct.specs.{Facts.IsKnown, Leaks.LeakFound, Leaks.LeakOf, declared.search.Step.Step as StepOf};
 ghost use Rattle.bl_ct.specs.SecretSearch.{AreJustified, Has, IsLeak, IsTable, is_found};
-ghost use Rattle.bl_ct.specs.Leaks.{LeakFound, LeakOf};
 ghost use Rattle.bl_ct.specs.Verdicts.{FindsChain, FindsSecrets, Judges, chain_in, labelling_of};
-ghost use Rattle.bl_ct.specs.declared.search.Step.{Step as StepOf};
 
 use crate::ends::{ends_of, marked};
 use crate::facts::{Known, facts_of, vars_of};

@@ -3,12 +3,8 @@ ghost use Rattle.std.specs.Prelude.{◌≡◌, ◌≤◌, ◌&&◌, ℕ, IfOk, l
 ghost use Rattle.std.specs.FinSet as fin;
 ghost use Rattle.bl_cmd.specs.Sites.{weight_of};
 ghost use Rattle.bl_flow.specs.Cuts.{cut_of};
-ghost use Rattle.bl_graph.specs.Certificates.{Certifies};
-ghost use Rattle.bl_graph.specs.Graphs.{IsGraph};
-ghost use Rattle.bl_cut.specs.Choices.{IsFlowOf, KnowsSinks};
-ghost use Rattle.bl_cut.specs.Least.{Least};
-ghost use Rattle.bl_cut.specs.Marks.{protected};
-ghost use Rattle.bl_cut.specs.Network.{IsNetwork};
+ghost use Rattle.bl_graph.specs.{Certificates.Certifies, Graphs.IsGraph};
+ghost use Rattle.bl_cut.specs.{Choices.IsFlowOf, Choices.KnowsSinks, Least.Least, Marks.protected, Network.IsNetwork};
 
 use crate::network::network;
 use crate::walks::{read_back, sinks_by_variable};

@@ -1,18 +1,14 @@
 //! Laws of least sets, of cuts and of marks. Each function is its contract alone.
 ghost use Rattle.std.specs.Prelude.{◌≡◌, ◌↔◌, ◌<◌, ℕ, Bool, Contains, IsTrue, List, false};
-ghost use Rattle.bl_base.specs.Runs.{Outcome};
-ghost use Rattle.bl_base.specs.declared.start.Start.{Start};
-ghost use Rattle.bl_cmd.specs.Outcomes.{plain};
+ghost use Rattle.bl_base.specs.{Runs.Outcome, declared.start.Start.Start};
+ghost use Rattle.bl_cmd.specs.{Outcomes.plain, declared.definitions.ProgramParts.ProgramParts};
 ghost use Rattle.bl_cmd.specs.Sites.{IsSite, Writes, is_protected, weight_of};
-ghost use Rattle.bl_cmd.specs.declared.definitions.ProgramParts.{ProgramParts};
 ghost use Rattle.bl_flow.specs.Cuts.{IsCut, NearIn, cut_weight};
 ghost use Rattle.bl_flow.specs.declared.network.Network.{Network as Net};
-ghost use Rattle.bl_graph.specs.Graphs.{IsGraph};
-ghost use Rattle.bl_graph.specs.declared.facts.Graph.{Graph as Lists};
+ghost use Rattle.bl_graph.specs.{Graphs.IsGraph, declared.facts.Graph.Graph as Lists};
 ghost use Rattle.bl_graph.specs.Ranges.{AreInRange, AreSites, variables};
 ghost use Rattle.bl_transient.specs.Transient.{Asked, IsFed, Passes, Trans};
-ghost use Rattle.bl_cut.specs.Least.{Least, LeastUnder};
-ghost use Rattle.bl_cut.specs.Marks.{protected};
+ghost use Rattle.bl_cut.specs.{Least.Least, Least.LeastUnder, Marks.protected};
 ghost use Rattle.bl_cut.specs.Network.{IsBarred, IsNetwork, node_of};
 
 /// A least set holds exactly the loads, and the sites that read a transient variable, that write one which isn't transient.

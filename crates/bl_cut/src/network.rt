@@ -1,8 +1,7 @@
 //! The network of a program.
 ghost use Rattle.std.specs.Prelude.{◌≡◌, ◌+◌, ◌++◌, ◌<◌, ◌^◌, ◌↔◌, ℕ, All, AllPairs, Contains, IfOk, None, OnOk, length, map, replicate};
 ghost use Rattle.bl_cmd.specs.Sites.{IsSite, site_weight};
-ghost use Rattle.bl_graph.specs.Graphs.{IsGraph, use_of};
-ghost use Rattle.bl_graph.specs.Names.{AreNames, place_of};
+ghost use Rattle.bl_graph.specs.{Graphs.IsGraph, Graphs.use_of, Names.AreNames, Names.place_of};
 ghost use Rattle.bl_transient.specs.Verdicts.{asked_of};
 ghost use Rattle.bl_cut.specs.Network.{AreReaders, Begins, IsNetworkUnder, noted, read_arc, sink_node, var_node, write_arc};
 

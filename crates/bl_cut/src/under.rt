@@ -3,8 +3,7 @@ ghost use Rattle.std.specs.Prelude.{◌≡◌, ◌<◌, ℕ, All, Contains, IfOk
 ghost use Rattle.std.specs.FinSet as fin;
 ghost use Rattle.bl_cmd.specs.Sites.{SinkReads, weight_of};
 ghost use Rattle.bl_cut.specs.Least.{LeastUnder};
-ghost use Rattle.bl_graph.specs.Graphs.{IsGraph};
-ghost use Rattle.bl_graph.specs.Ranges.{variables};
+ghost use Rattle.bl_graph.specs.{Graphs.IsGraph, Ranges.variables};
 ghost use Rattle.bl_transient.specs.Verdicts.{asked_of};
 
 use crate::choice::cut_sites;

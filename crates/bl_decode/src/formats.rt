@@ -5,9 +5,7 @@ ghost use Rattle.bl_wasm.specs.Values.{byte_vec, name, vec};
 ghost use Rattle.bl_wasm.specs.Types.{limits, value_type, mutability};
 ghost use Rattle.bl_wasm.specs.Instructions.{expression};
 ghost use Rattle.bl_code.proofs.Unique.{byte_vec_prefix_free, name_prefix_free, vec_prefix_free};
-ghost use Rattle.bl_code.proofs.Limits.{limits_prefix_free};
-ghost use Rattle.bl_code.proofs.BlockTypes.{value_type_prefix_free};
-ghost use Rattle.bl_code.proofs.ExpressionLemmas.{expression_prefix_free};
+ghost use Rattle.bl_code.proofs.{Limits.limits_prefix_free, BlockTypes.value_type_prefix_free, ExpressionLemmas.expression_prefix_free};
 ghost use Rattle.bl_decode.specs.Laws.{seq_prefix_free, mark_prefix_free, mutability_prefix_free};
 
 use crate::sized::stands_at;

@@ -1,8 +1,6 @@
 //! What links can take.
 ghost use Rattle.std.specs.Prelude.{◌≡◌, ◌<◌, ◌≤◌, ◌+◌, ◌^◌, ◌/◌, ℕ, None, length, slice_get, slice_index, unwrap_or, IfOk};
-ghost use Rattle.bl_flow.specs.Networks.{size};
-ghost use Rattle.bl_flow.specs.Flows.{AreReverse, HasCapacities};
-ghost use Rattle.bl_flow.specs.Capacities.{IsMoved};
+ghost use Rattle.bl_flow.specs.{Networks.size, Flows.AreReverse, Flows.HasCapacities, Capacities.IsMoved};
 
 use crate::network::Network;
 use bl_base::NoMemory;

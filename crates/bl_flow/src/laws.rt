@@ -1,10 +1,7 @@
 //! Laws of flows. Each function is its contract alone.
 ghost use Rattle.std.specs.Prelude.{◌<◌, ◌^◌, IsSome};
-ghost use Rattle.bl_flow.specs.Cuts.{Meets};
-ghost use Rattle.bl_flow.specs.MaxFlow.{IsMaxFlow};
+ghost use Rattle.bl_flow.specs.{Cuts.Meets, MaxFlow.IsMaxFlow, declared.network.FlowResult.FlowResult, declared.network.Network.Network};
 ghost use Rattle.bl_flow.specs.Networks.{InRange, total_weight, weight_at};
-ghost use Rattle.bl_flow.specs.declared.network.FlowResult.{FlowResult};
-ghost use Rattle.bl_flow.specs.declared.network.Network.{Network};
 
 /// A network that `max_flow` takes has a maximum flow, with the cut of that weight nearest the starts.
 pub fn some_flow_is_greatest()

@@ -1,8 +1,7 @@
 //! What a search for a flow needs of a network.
 ghost use Rattle.std.specs.Prelude.{◌<◌, ◌+◌, ◌*◌, ◌^◌, ℕ, length, IsSome, IfOk};
 ghost use Rattle.bl_flow.specs.Networks.{InRange, weight_at, total_weight};
-ghost use Rattle.bl_flow.specs.Cuts.{Meets};
-ghost use Rattle.bl_flow.specs.Split.{link_at};
+ghost use Rattle.bl_flow.specs.{Cuts.Meets, Split.link_at};
 ghost use Rattle.bl_flow.specs.MaxFlow.{IsSplit, IsSorted, IsLaidOut};
 
 use crate::capacities::Capacities;

@@ -1,9 +1,7 @@
 //! Residual networks: where more can flow beside what flows.
 ghost use Rattle.std.specs.Prelude.{◌≡◌, ◌↔◌, ◌<◌, ◌≤◌, ◌+◌, ◌*◌, ◌^◌, ℕ, Any, IsSome, IsTrue, length, replicate, IfOk, IfErr, OnErr};
 ghost use Rattle.bl_flow.specs.Networks.{InRange, weight_at, total_weight, size};
-ghost use Rattle.bl_flow.specs.Cuts.{Meets};
-ghost use Rattle.bl_flow.specs.declared.network.Network.{Network};
-ghost use Rattle.bl_flow.specs.Levels.{level_at};
+ghost use Rattle.bl_flow.specs.{Cuts.Meets, declared.network.Network.Network, Levels.level_at};
 ghost use Rattle.bl_flow.specs.PackedNetworks.{lowered, IsPacked, IsAdvanced};
 ghost use Rattle.bl_flow.specs.Residuals.{IsLawful, amount_of, AreLevelsOf, ReachesAnEnd, EndsHaveRisen};
 

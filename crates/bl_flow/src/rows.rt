@@ -1,8 +1,7 @@
 //! Compressed rows: for each part the links from it, one row behind the other.
 ghost use Rattle.std.specs.Prelude.{◌≡◌, ◌<◌, ◌+◌, ◌^◌, ℕ, suc, length, slice_get, slice_index, IfOk};
 ghost use Rattle.bl_base.specs.Sums.{sum_below};
-ghost use Rattle.bl_flow.specs.Split.{link_at};
-ghost use Rattle.bl_flow.specs.Searches.{AreRows, part_row};
+ghost use Rattle.bl_flow.specs.{Split.link_at, Searches.AreRows, Searches.part_row};
 ghost use Rattle.bl_flow.specs.AdjacencyLists.{reversed, AreCounts, AreRowEnds};
 
 use crate::split::{Link, Links, number_of, reverse_of};

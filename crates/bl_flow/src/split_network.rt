@@ -1,7 +1,6 @@
 //! The split network of a network, as a search holds it.
 ghost use Rattle.std.specs.Prelude.{◌≡◌, ◌<◌, ◌^◌, ℕ, length, slice_get};
-ghost use Rattle.bl_flow.specs.Searches.{part_row};
-ghost use Rattle.bl_flow.specs.SplitNetworks.{rows_in};
+ghost use Rattle.bl_flow.specs.{Searches.part_row, SplitNetworks.rows_in};
 
 use crate::rows::Rows;
 use crate::split::Links;

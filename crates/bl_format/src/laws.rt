@@ -1,9 +1,7 @@
 //! The law that programs have images. The function is its contract alone.
 ghost use Rattle.std.specs.Prelude.{ℕ, List};
 ghost use Rattle.bl_base.specs.Fits.{AreBytes};
-ghost use Rattle.bl_cmd.specs.declared.definitions.ProgramParts.{ProgramParts};
-ghost use Rattle.bl_cmd.specs.Programs.{IsProgram};
-ghost use Rattle.bl_cmd.specs.Rules.{IsWellFormed};
+ghost use Rattle.bl_cmd.specs.{declared.definitions.ProgramParts.ProgramParts, Programs.IsProgram, Rules.IsWellFormed};
 ghost use Rattle.bl_cmd.specs.Widths.{HasByteWidths, HasWidths};
 ghost use Rattle.bl_format.specs.Image.{Image};
 

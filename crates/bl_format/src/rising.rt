@@ -1,8 +1,7 @@
 //! Writers of things whose numbers rise: the rows of memories, and weights.
 ghost use Rattle.std.specs.Prelude.{◌≡◌, ◌<◌, ◌^◌, ℕ, List as Listed, length, OnOk};
 ghost use Rattle.bl_leb.specs.Grammar.{◌⨾◌};
-ghost use Rattle.bl_format.specs.Grammar.{u32, rising};
-ghost use Rattle.bl_format.specs.Image.{row, weight};
+ghost use Rattle.bl_format.specs.{Grammar.u32, Grammar.rising, Image.row, Image.weight};
 ghost use Rattle.bl_format.specs.WriterAnswers.{Adds, HasLength, Rises};
 
 use crate::write::{length_of_count, length_of_u64, write_u64};

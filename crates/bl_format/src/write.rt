@@ -1,9 +1,7 @@
 //! Writers of values that stand in images, and how many bytes they write.
 ghost use Rattle.std.specs.Prelude.{◌≡◌, ◌+◌, ◌<◌, ◌^◌, ℕ, List as Listed, All, OnOk, if◌then◌else◌, length};
 ghost use Rattle.bl_cmd.specs.Rules.{IsMark};
-ghost use Rattle.bl_leb.specs.Grammar.{◌⨾◌, byte};
-ghost use Rattle.bl_leb.specs.Numbers.{IsUnsigned};
-ghost use Rattle.bl_leb.specs.Spellings.{IsShortest};
+ghost use Rattle.bl_leb.specs.{Grammar.◌⨾◌, Grammar.byte, Numbers.IsUnsigned, Spellings.IsShortest};
 ghost use Rattle.bl_format.specs.Grammar.{each, vec, u32, u64};
 ghost use Rattle.bl_format.specs.Image.{value_type, label, operand, operand_fields, mark, operator, access, trap_kind, text};
 ghost use Rattle.bl_format.specs.WriterAnswers.{Adds, HasLength};

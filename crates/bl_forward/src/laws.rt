@@ -2,23 +2,16 @@
 ghost use Rattle.std.specs.Prelude.{◌≡◌, ◌↔◌, ◌≤◌, ℕ, List};
 ghost use Rattle.bl_base.specs.declared.start.Start.{Start};
 ghost use Rattle.bl_cmd.specs.Outcomes.{Agree, IsStart, opening as plain_opening};
-ghost use Rattle.bl_cmd.specs.Programs.{IsProgram};
-ghost use Rattle.bl_cmd.specs.Rules.{IsWellFormed};
-ghost use Rattle.bl_cmd.specs.Sites.{is_protected};
-ghost use Rattle.bl_cmd.specs.declared.definitions.ProgramParts.{ProgramParts};
+ghost use Rattle.bl_cmd.specs.{Programs.IsProgram, Rules.IsWellFormed, Sites.is_protected, declared.definitions.ProgramParts.ProgramParts};
 ghost use Rattle.bl_graph.specs.Labels.{ConstantTime};
-ghost use Rattle.bl_rob.specs.Machines.{opening};
-ghost use Rattle.bl_rob.specs.Observations.{IsConsistent, after_by};
-ghost use Rattle.bl_rob.specs.declared.directive.Directive.{Directive};
+ghost use Rattle.bl_rob.specs.{Machines.opening, Observations.IsConsistent, Observations.after_by, declared.directive.Directive.Directive};
 ghost use Rattle.bl_rob.specs.declared.entry.Entry.{Entry};
 ghost use Rattle.bl_sct.specs.OtherSecrets.{HidesGlobalsBy};
 ghost use Rattle.bl_transient.specs.Transient.{Passes};
 ghost use Rattle.bl_twin.specs.TwinComparisons.{comparison_by};
 ghost use Rattle.bl_twin.specs.declared.comparison.Comparison.TheVariants as comparison_is;
 ghost use Rattle.bl_forward.specs.ForwardMachines.{observed_forwarding, HasEqualForwarding, found_in, forward_step};
-ghost use Rattle.bl_forward.specs.LastStores.{Finds};
-ghost use Rattle.bl_forward.specs.SightTexts.{are_same};
-ghost use Rattle.bl_forward.specs.declared.find.Found.{Found};
+ghost use Rattle.bl_forward.specs.{LastStores.Finds, SightTexts.are_same, declared.find.Found.Found};
 
 /// Where a load of so many bytes from a place on finds them behind entries: in memory, where no ready store among them meets its range; in
 /// the last one that does, where that has the same range; else nowhere.

@@ -1,8 +1,7 @@
 //! The loads of the machine that forwards stores: what executing an entry comes to, where it is a pending load.
 ghost use Rattle.std.specs.Prelude.{◌≡◌, ◌≤◌, length};
 ghost use Rattle.bl_seq.specs.Layouts.{IsLayout};
-ghost use Rattle.bl_rob.specs.CallResults.{shown};
-ghost use Rattle.bl_rob.specs.LoadPolicies.{answer_as};
+ghost use Rattle.bl_rob.specs.{CallResults.shown, LoadPolicies.answer_as};
 ghost use Rattle.bl_forward.specs.ForwardMachines.{forward_step, other_steps, execution_at, execution_from};
 ghost use Rattle.bl_forward.specs.declared.seen.Seen.TheVariants.{Plain};
 

@@ -1,16 +1,11 @@
 //! Laws of the modules that are made. Each function is its contract alone.
 ghost use Rattle.std.specs.Prelude.{◌≤◌, ◌<◌, ◌^◌, ℕ, Result, length};
-ghost use Rattle.bl_base.specs.Fits.{AreBytes};
-ghost use Rattle.bl_base.specs.Quantity.{limit_of};
+ghost use Rattle.bl_base.specs.{Fits.AreBytes, Quantity.limit_of};
 ghost use Rattle.bl_base.specs.declared.quantity.Quantity.TheVariants as quantity;
-ghost use Rattle.bl_leb.specs.Numbers.{IsUnsigned};
-ghost use Rattle.bl_leb.specs.Spellings.{IsShortest};
-ghost use Rattle.bl_wasm.specs.Modules.{Spells};
-ghost use Rattle.bl_wasm.specs.declared.module.Module.{Module};
-ghost use Rattle.bl_decode.specs.DecoderAnswers.{AnswersOf};
-ghost use Rattle.bl_decode.specs.declared.error.DecodeError.{DecodeError};
-ghost use Rattle.bl_gen.specs.AcceptedModules.{GivesValid, IsAccepted};
-ghost use Rattle.bl_gen.specs.GeneratedModule.{leb, made};
+ghost use Rattle.bl_leb.specs.{Numbers.IsUnsigned, Spellings.IsShortest};
+ghost use Rattle.bl_wasm.specs.{Modules.Spells, declared.module.Module.Module};
+ghost use Rattle.bl_decode.specs.{DecoderAnswers.AnswersOf, declared.error.DecodeError.DecodeError};
+ghost use Rattle.bl_gen.specs.{AcceptedModules.GivesValid, AcceptedModules.IsAccepted, GeneratedModule.leb, GeneratedModule.made};
 
 /// The bytes of each module that is made spell a module that is supported, exceeds no limit and is valid. So what decoding
 /// promises of its answer, for every module that the bytes spell, is that a valid module comes, but for want of memory.

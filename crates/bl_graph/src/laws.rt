@@ -1,15 +1,10 @@
 //! Laws of graphs and certificates. Each function is its contract alone.
 ghost use Rattle.std.specs.Prelude.{◌≡◌, ℕ, Bool, Contains, IsTrue};
-ghost use Rattle.bl_cmd.specs.Programs.{IsProgram};
-ghost use Rattle.bl_cmd.specs.Rules.{IsWellFormed};
-ghost use Rattle.bl_cmd.specs.Sites.{IsSite, Writes};
+ghost use Rattle.bl_cmd.specs.{Programs.IsProgram, Rules.IsWellFormed, Sites.IsSite, Sites.Writes};
 ghost use Rattle.bl_cmd.specs.declared.definitions.ProgramParts.{ProgramParts};
 ghost use Rattle.bl_graph.specs.Certificates.{CertifiesSet, IsFlowPath, sites_of};
-ghost use Rattle.bl_graph.specs.Graphs.{IsGraph};
-ghost use Rattle.bl_graph.specs.Ranges.{AreInRange, AreSites};
-ghost use Rattle.bl_graph.specs.declared.certificate.Certificate.{Certificate};
-ghost use Rattle.bl_graph.specs.declared.certificate.FlowPath.{FlowPath};
-ghost use Rattle.bl_graph.specs.declared.facts.Graph.{Graph as Lists};
+ghost use Rattle.bl_graph.specs.{Graphs.IsGraph, Ranges.AreInRange, Ranges.AreSites, declared.certificate.Certificate.Certificate};
+ghost use Rattle.bl_graph.specs.{declared.certificate.FlowPath.FlowPath, declared.facts.Graph.Graph as Lists};
 
 /// Positions, variables and weights of a well-formed program lie in their ranges.
 pub fn in_range()

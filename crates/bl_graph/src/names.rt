@@ -1,10 +1,8 @@
 //! The variables that a program's commands name, and a number without gaps for each of them.
 ghost use Rattle.std.specs.Prelude.{◌≡◌, ◌+◌, ◌*◌, ◌-◌, ◌^◌, ◌++◌, ◌<◌, ◌≤◌, ◌↔◌, ℕ, All, AllPairs, Contains, IfOk, OnOk, Some, length, map, min, slice_get};
-ghost use Rattle.std.specs.Cow.{cow_slice_items};
-ghost use Rattle.std.specs.List.{range_with_len};
-ghost use Rattle.bl_graph.specs.Graphs.{IsGraph};
+ghost use Rattle.std.specs.{Cow.cow_slice_items, List.range_with_len};
+ghost use Rattle.bl_graph.specs.{Graphs.IsGraph, Ranges.variables};
 ghost use Rattle.bl_graph.specs.Names.{AreNames, IsNamed, numbered, place_of, var_of};
-ghost use Rattle.bl_graph.specs.Ranges.{variables};
 
 use crate::facts::{Graph, Use};
 use crate::writes::{ranges, variables};

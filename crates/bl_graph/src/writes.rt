@@ -1,12 +1,9 @@
 //! What sites write.
 ghost use Rattle.std.specs.Prelude.{◌≡◌, IfOk, OnOk, Some, option_map, suc};
 ghost use Rattle.bl_cmd.specs.Layout.{command_at, entry_of, statics, Holds};
-ghost use Rattle.bl_cmd.specs.Rules.{IsWellFormed};
-ghost use Rattle.bl_cmd.specs.Sites.{written_by, Writes};
-ghost use Rattle.bl_graph.specs.Graphs.{AreUses};
-ghost use Rattle.bl_graph.specs.Ranges.{AreInRange, variables};
-ghost use Rattle.bl_graph.specs.FirstVariables.{IsRunning, firsts_from};
-ghost use Rattle.bl_graph.specs.UseLists.{AddsRow, AreBelow};
+ghost use Rattle.bl_cmd.specs.{Rules.IsWellFormed, Sites.written_by, Sites.Writes};
+ghost use Rattle.bl_graph.specs.{Graphs.AreUses, Ranges.AreInRange, Ranges.variables};
+ghost use Rattle.bl_graph.specs.{FirstVariables.IsRunning, FirstVariables.firsts_from, UseLists.AddsRow, UseLists.AreBelow};
 
 use crate::facts::Use;
 use bl_base::{List, NoMemory, Pos, Var};

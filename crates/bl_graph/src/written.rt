@@ -1,8 +1,7 @@
 //! For each position what the site there writes, as a table.
 ghost use Rattle.std.specs.Prelude.{◌≡◌, ◌<◌, ℕ, All, Contains, IfOk, None, replicate};
 ghost use Rattle.std.specs.FinSet as fin;
-ghost use Rattle.bl_graph.specs.Graphs.{use_of};
-ghost use Rattle.bl_graph.specs.WrittenVariables.{AreUnprotected, noted};
+ghost use Rattle.bl_graph.specs.{Graphs.use_of, WrittenVariables.AreUnprotected, WrittenVariables.noted};
 
 use crate::facts::Write;
 use bl_base::{NoMemory, Pos, SiteSet};

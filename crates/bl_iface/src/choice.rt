@@ -2,13 +2,11 @@
 ghost use Rattle.std.specs.Prelude.{◌≡◌, ℕ, IfErr, IfOk, IsTrue, MatchOption, nat_eq};
 ghost use Rattle.std.specs.BTreeSet as sorted;
 ghost use Rattle.std.specs.FinSet as fin;
-ghost use Rattle.std.specs.List.{AllPairs, list_any};
-ghost use Rattle.std.specs.Ordering.{nat_cmp};
+ghost use Rattle.std.specs.{List.AllPairs, List.list_any, Ordering.nat_cmp};
 ghost use Rattle.bl_cmd.specs.Sites.{weight_of};
 ghost use Rattle.bl_cut.specs.Least.{LeastUnder};
 ghost use Rattle.bl_graph.specs.Graphs.{IsGraph, Precedes};
-ghost use Rattle.bl_iface.specs.RoleLists.{IsFirstUse, NoUse};
-ghost use Rattle.bl_iface.specs.InterfaceFunctions.{Matches};
+ghost use Rattle.bl_iface.specs.{RoleLists.IsFirstUse, RoleLists.NoUse, InterfaceFunctions.Matches};
 ghost use Rattle.bl_iface.specs.RoleTests.{IsFirstGiven, IsGiven, IsUnderError, asked};
 ghost use Rattle.bl_iface.specs.declared.choice.UnderError.TheVariants as under;
 ghost use Rattle.bl_transient.specs.Verdicts.{asked_of};

@@ -1,12 +1,8 @@
 //! Two programs joined.
 ghost use Rattle.std.specs.Prelude.{◌≡◌, ◌++◌, ◌+◌, ◌<◌, ◌≤◌, ◌^◌, IfOk, IfErr, OnOk, drop, length, map};
-ghost use Rattle.bl_cmd.specs.Layout.{first_of, statics};
-ghost use Rattle.bl_cmd.specs.Programs.{IsProgram};
-ghost use Rattle.bl_cmd.specs.Rules.{IsWellFormed};
-ghost use Rattle.bl_cmd.specs.Tables.{AreValues};
-ghost use Rattle.bl_iface.specs.Answers.{JoinAnswers, StandsAgainst};
+ghost use Rattle.bl_cmd.specs.{Layout.first_of, Layout.statics, Programs.IsProgram, Rules.IsWellFormed, Tables.AreValues};
+ghost use Rattle.bl_iface.specs.{Answers.JoinAnswers, Answers.StandsAgainst, InterfaceFunctions.AreTargets, InterfaceFunctions.Matches};
 ghost use Rattle.bl_iface.specs.JoinedProgram.{CanJoin, client_numbers, client_shift, demands_of, joined, kept as exports_kept, library_numbers, library_shift, moved_export, moved_weight, renamed};
-ghost use Rattle.bl_iface.specs.InterfaceFunctions.{AreTargets, Matches};
 ghost use Rattle.bl_iface.specs.PartNumbers.{LeadsTo};
 
 use crate::copies::{
@@ -23,8 +19,8 @@ use crate::shift::Shift;
 use crate::tables::goals_of;
 use bl_base::{List, NoMemory};
 use bl_cmd::{
-    Command, Demand, ExportDef, FIRST_ENTRY, FunctionDef, MemoryDef, ProgramParts,
-    SiteWeight, WellFormed, firsts_of,
+    Command, Demand, ExportDef, FIRST_ENTRY, FunctionDef, MemoryDef, ProgramParts, SiteWeight,
+    WellFormed, firsts_of,
 };
 use std::alloc::Global;
 

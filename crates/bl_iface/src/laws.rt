@@ -1,27 +1,17 @@
 //! Laws of interfaces and of joined programs. Each function is its contract alone.
 ghost use Rattle.std.specs.Prelude.{◌≡◌, ◌↔◌, ℕ, Bool as Truth, Err, IsTrue, List as Listed, Result as Answer};
-ghost use Rattle.bl_base.specs.declared.names.Role.{Role};
-ghost use Rattle.bl_base.specs.declared.names.Role.TheVariants.{Client, Library};
-ghost use Rattle.bl_cmd.specs.Programs.{IsProgram};
-ghost use Rattle.bl_cmd.specs.Rules.{IsWellFormed};
-ghost use Rattle.bl_cmd.specs.Sites.{is_protected};
-ghost use Rattle.bl_cmd.specs.declared.definitions.ProgramParts.{ProgramParts};
+ghost use Rattle.bl_base.specs.{declared.names.Role.Role, declared.names.Role.TheVariants.Client, declared.names.Role.TheVariants.Library};
+ghost use Rattle.bl_cmd.specs.{Programs.IsProgram, Rules.IsWellFormed, Sites.is_protected, declared.definitions.ProgramParts.ProgramParts};
 ghost use Rattle.bl_cut.specs.Least.{LeastUnder};
 ghost use Rattle.bl_graph.specs.Ranges.{AreInRange};
 ghost use Rattle.bl_transient.specs.Transient.{FlowsUnder, Passes, TransUnder};
 ghost use Rattle.bl_transient.specs.Verdicts.{IsBad};
-ghost use Rattle.bl_iface.specs.Answers.{JoinAnswers};
+ghost use Rattle.bl_iface.specs.{Answers.JoinAnswers, Files.IsIface, JoinedProgram.CanJoin, JoinedProgram.joined};
 ghost use Rattle.bl_iface.specs.Example.{client, iface, library, whole};
-ghost use Rattle.bl_iface.specs.Files.{IsIface};
-ghost use Rattle.bl_iface.specs.JoinedProgram.{CanJoin, joined};
-ghost use Rattle.bl_iface.specs.InterfaceFunctions.{Matches};
-ghost use Rattle.bl_iface.specs.Roles.{FlowsAs, PassesAs};
+ghost use Rattle.bl_iface.specs.{InterfaceFunctions.Matches, Roles.FlowsAs, Roles.PassesAs, declared.error.IfaceError.IfaceError};
 ghost use Rattle.bl_iface.specs.RoleTests.{IsFirstGiven, IsGiven, JudgesAs, LeastAs, asked};
-ghost use Rattle.bl_iface.specs.declared.error.IfaceError.{IfaceError};
-ghost use Rattle.bl_iface.specs.declared.error.IfaceError.TheVariants.{Memory as IfaceMemory};
-ghost use Rattle.bl_iface.specs.declared.error.JoinError.{JoinError};
-ghost use Rattle.bl_iface.specs.declared.error.JoinError.TheVariants.{Memory};
-ghost use Rattle.bl_iface.specs.declared.iface.Iface.{Iface};
+ghost use Rattle.bl_iface.specs.{declared.error.IfaceError.TheVariants.Memory as IfaceMemory, declared.error.JoinError.JoinError};
+ghost use Rattle.bl_iface.specs.{declared.error.JoinError.TheVariants.Memory, declared.iface.Iface.Iface};
 ghost use Rattle.bl_iface.specs.declared.verdict.UnderVerdict.{UnderVerdict};
 
 /// Two programs that can be joined are joined to a program that keeps all rules.

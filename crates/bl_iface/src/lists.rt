@@ -1,13 +1,10 @@
 //! What a role asks of a program's variables, as lists.
 ghost use Rattle.std.specs.Prelude.{◌≡◌, ◌+◌, ◌++◌, ◌<◌, ◌^◌, ℕ, IfOk, OnOk, Some, length};
 ghost use Rattle.std.specs.List.{All, Contains};
-ghost use Rattle.bl_cmd.specs.Layout.{first_of};
-ghost use Rattle.bl_cmd.specs.Rules.{Rule2};
-ghost use Rattle.bl_cmd.specs.Tables.{AreValues};
+ghost use Rattle.bl_cmd.specs.{Layout.first_of, Rules.Rule2, Tables.AreValues};
 ghost use Rattle.bl_graph.specs.Ranges.{variables};
 ghost use Rattle.bl_iface.specs.RoleLists.{Adds, AreAsked, asked_from, called_from, kept_if};
-ghost use Rattle.bl_iface.specs.InterfaceFunctions.{AreTargets, Matches};
-ghost use Rattle.bl_iface.specs.RoleTests.{is_flow};
+ghost use Rattle.bl_iface.specs.{InterfaceFunctions.AreTargets, InterfaceFunctions.Matches, RoleTests.is_flow};
 
 use crate::iface::{FnIface, Iface};
 use crate::matching::matched;

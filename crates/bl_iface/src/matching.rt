@@ -1,7 +1,6 @@
 //! The functions of an interface in a program.
 ghost use Rattle.std.specs.Prelude.{◌≡◌, ◌↔◌, ◌<◌, IfOk, IfErr, IfSome, IsSomeAnd, IsTrue, MatchOption, Some, length};
-ghost use Rattle.bl_iface.specs.Answers.{IsFirstWithout};
-ghost use Rattle.bl_iface.specs.JoinedProgram.{exported};
+ghost use Rattle.bl_iface.specs.{Answers.IsFirstWithout, JoinedProgram.exported};
 ghost use Rattle.bl_iface.specs.InterfaceFunctions.{AreTargets, Fits, IsMatched, IsTargetsError, Matches};
 
 use crate::error::TargetsError;

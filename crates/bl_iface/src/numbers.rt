@@ -1,8 +1,7 @@
 //! A part's commands by the numbers of the joined program.
 ghost use Rattle.std.specs.Prelude.{◌≡◌, ◌++◌, ◌+◌, ◌-◌, ◌<◌, ◌≤◌, ◌^◌, ◌⊎◌, MatchOption, OnOk, length, map, slice_index};
 ghost use Rattle.std.specs.List.{All};
-ghost use Rattle.bl_cmd.specs.Layout.{first_of, result as result_at};
-ghost use Rattle.bl_cmd.specs.Rules.{IsOwn};
+ghost use Rattle.bl_cmd.specs.{Layout.first_of, Layout.result as result_at, Rules.IsOwn};
 ghost use Rattle.bl_cmd.specs.declared.command.Command.TheVariants.{Arg, Call, Jump, Load, Out, Set, Store, Test};
 ghost use Rattle.bl_iface.specs.JoinedProgram.{moved_var, operand_by, renamed};
 ghost use Rattle.bl_iface.specs.PartNumbers.{AreNumbers, goal_in, numbers_by};

@@ -1,9 +1,8 @@
 //! What stands against joining two programs.
 ghost use Rattle.std.specs.Prelude.{◌≡◌, ◌↔◌, IfOk, IsTrue, MatchOption};
 ghost use Rattle.std.specs.List.{All};
-ghost use Rattle.bl_iface.specs.Answers.{IsFirstWithout};
+ghost use Rattle.bl_iface.specs.{Answers.IsFirstWithout, InterfaceFunctions.AreTargets};
 ghost use Rattle.bl_iface.specs.JoinedProgram.{HasSameTypes, IsNew, kinds};
-ghost use Rattle.bl_iface.specs.InterfaceFunctions.{AreTargets};
 
 use crate::iface::Iface;
 use crate::names::numbers_of;

@@ -1,7 +1,6 @@
 //! Where a part stands in the joined program.
 ghost use Rattle.std.specs.Prelude.{◌≡◌};
-ghost use Rattle.bl_iface.specs.JoinedProgram.{moved_position, moved_var};
-ghost use Rattle.bl_iface.specs.MovableNumbers.{IsNear, IsSmall};
+ghost use Rattle.bl_iface.specs.{JoinedProgram.moved_position, JoinedProgram.moved_var, MovableNumbers.IsNear, MovableNumbers.IsSmall};
 
 use bl_base::Pos;
 use bl_cmd::{FIRST_ENTRY, ProgramParts};

@@ -1,7 +1,6 @@
 //! The tables by which a client and a library are joined.
 ghost use Rattle.std.specs.Prelude.{◌≡◌, IfOk, length, replicate, None};
-ghost use Rattle.bl_iface.specs.InterfaceFunctions.{AreTargets};
-ghost use Rattle.bl_iface.specs.PartNumbers.{LeadsTo};
+ghost use Rattle.bl_iface.specs.{InterfaceFunctions.AreTargets, PartNumbers.LeadsTo};
 
 use crate::iface::Iface;
 use bl_base::{List, NoMemory};

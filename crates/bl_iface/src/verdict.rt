@@ -1,8 +1,7 @@
 //! Whether a program's own marks pass on one side of an interface.
 ghost use Rattle.std.specs.Prelude.{IfOk};
 ghost use Rattle.bl_cmd.specs.Sites.{is_protected};
-ghost use Rattle.bl_iface.specs.InterfaceFunctions.{Matches};
-ghost use Rattle.bl_iface.specs.RoleTests.{JudgesAs};
+ghost use Rattle.bl_iface.specs.{InterfaceFunctions.Matches, RoleTests.JudgesAs};
 
 use crate::iface::Iface;
 use crate::lists::asked_of;

@@ -1,8 +1,7 @@
 //! Readers of things whose numbers rise: the rows of memories, and weights.
 ghost use Rattle.std.specs.Prelude.{◌≡◌, ◌≤◌, ◌^◌, length};
 ghost use Rattle.bl_leb.specs.Grammar.{◌⨾◌, exactly, given};
-ghost use Rattle.bl_format.specs.Grammar.{gap, rising};
-ghost use Rattle.bl_format.specs.Image.{rows, weights};
+ghost use Rattle.bl_format.specs.{Grammar.gap, Grammar.rising, Image.rows, Image.weights};
 ghost use Rattle.bl_image.specs.ReaderAnswers.{Finds, Reads};
 
 use crate::error::{Malformed, ReadError};

@@ -1,8 +1,7 @@
 //! The entries of a section of labels.
 ghost use Rattle.std.specs.Prelude.{◌≡◌, ◌≤◌, ℕ, length, List as Listed};
 ghost use Rattle.bl_code.specs.ReaderAnswers.{Finds};
-ghost use Rattle.bl_labels.specs.Entries.{entry, place};
-ghost use Rattle.bl_labels.specs.EntryLaws.{entry_prefix_free};
+ghost use Rattle.bl_labels.specs.{Entries.entry, Entries.place, EntryLaws.entry_prefix_free};
 
 use crate::labels::Place;
 use bl_code::{CodeError, Format, Malformed, read_byte, read_u32};

@@ -1,8 +1,7 @@
 //! Lists of what is named, in which each element is found without going through the list.
 ghost use Rattle.std.specs.Prelude.{◌≡◌, ◌++◌, ◌∷◌, [], ◌<◌, ◌≤◌, ◌^◌, false, IfOk};
 ghost use Rattle.std.specs.FinSet as fin;
-ghost use Rattle.bl_labels.specs.LabelSets.{key as key_of};
-ghost use Rattle.bl_labels.specs.LabelledPlaces.{is_listed, is_place};
+ghost use Rattle.bl_labels.specs.{LabelSets.key as key_of, LabelledPlaces.is_listed, LabelledPlaces.is_place};
 
 use crate::labels::Place;
 use crate::numbers::NumberSet;

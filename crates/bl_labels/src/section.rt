@@ -1,7 +1,6 @@
 //! The section of labels of a module.
 ghost use Rattle.std.specs.Prelude.{◌≡◌, ◌≤◌, ◌&&◌, [], drop, length, nat_eq, IfNone, IfOk, IfSome};
-ghost use Rattle.std.specs.List.{list_all};
-ghost use Rattle.std.specs.Str.{bytes_eq};
+ghost use Rattle.std.specs.{List.list_all, Str.bytes_eq};
 ghost use Rattle.bl_labels.specs.Entries.{has as has_of, is_secret as is_secret_of};
 ghost use Rattle.bl_labels.specs.Faults.{IsConsistent, IsNext, labels_name, sections_of};
 ghost use Rattle.bl_labels.specs.LabelAnswers.{InSection, ReadsSection, Tells};

@@ -2,16 +2,10 @@
 ghost use Rattle.std.specs.Prelude.{◌≡◌, ◌<◌, ◌^◌, ◌++◌, Ok, filter_map, fold, length, map, nat_le, sum_by, IsTrue, OnOk};
 ghost use Rattle.std.specs.List.{enumerate_from, list_all, zip};
 ghost use Rattle.std.specs.Vec.Iter.{into_iter_items};
-ghost use Rattle.bl_base.specs.Quantity.{limit_of};
-ghost use Rattle.bl_base.specs.declared.quantity.Quantity.TheVariants.{Reserve};
-ghost use Rattle.bl_wasm.specs.Exports.{AreDistinct};
-ghost use Rattle.bl_wasm.specs.Linked.{IsLinked};
-ghost use Rattle.bl_link.specs.Signatures.{signature};
-ghost use Rattle.bl_link.specs.CanLink.{AreLeft, CanLink};
-ghost use Rattle.bl_link.specs.LinkAnswers.{Gives, Makes};
-ghost use Rattle.bl_link.specs.HasRoom.{HasRoom, IsSpace};
-ghost use Rattle.bl_link.specs.Stores.{AreApart};
-ghost use Rattle.bl_link.specs.Linkable.{AreParts};
+ghost use Rattle.bl_base.specs.{Quantity.limit_of, declared.quantity.Quantity.TheVariants.Reserve};
+ghost use Rattle.bl_wasm.specs.{Exports.AreDistinct, Linked.IsLinked};
+ghost use Rattle.bl_link.specs.{Signatures.signature, CanLink.AreLeft, CanLink.CanLink, LinkAnswers.Gives, LinkAnswers.Makes};
+ghost use Rattle.bl_link.specs.{HasRoom.HasRoom, HasRoom.IsSpace, Stores.AreApart, Linkable.AreParts};
 ghost use Rattle.bl_link.specs.Links.{data_fits, element_fits, initialised as initialised_of, exported, function, global, indexed, links, memory, nothing as nothing_of, pair, part_of, reserves as reserves_of, table, with_code, with_next, with_part as with_part_of, with_segments as with_segments_of, within_reserve as within_of};
 
 use crate::all_names::AllNames;

@@ -1,8 +1,7 @@
 //! What the imports of a part are given.
 ghost use Rattle.std.specs.Prelude.{◌≡◌, ◌∷◌, ◌++◌, ◌<◌, ◌^◌, length, nat_eq, IfOk};
 ghost use Rattle.std.specs.List.{list_any};
-ghost use Rattle.bl_link.specs.LinkAnswers.{Gives};
-ghost use Rattle.bl_link.specs.ImportMatches.{all_given, given as given_of};
+ghost use Rattle.bl_link.specs.{LinkAnswers.Gives, ImportMatches.all_given, ImportMatches.given as given_of};
 
 use crate::error::LinkError;
 use crate::matching::matches;

@@ -1,12 +1,9 @@
 //! Laws of linking. Each function is its contract alone.
 ghost use Rattle.std.specs.Prelude.{◌≡◌, Err, List, Ok, length};
 ghost use Rattle.std.specs.List.{All};
-ghost use Rattle.bl_wasm.specs.Linked.{IsLinked};
-ghost use Rattle.bl_wasm.specs.declared.linked.Tree.{Tree};
+ghost use Rattle.bl_wasm.specs.{Linked.IsLinked, declared.linked.Tree.Tree};
 ghost use Rattle.bl_link.specs.Linkable.{AreFew, AreParts, HasFewExports, IsSound};
-ghost use Rattle.bl_link.specs.Links.{links};
-ghost use Rattle.bl_link.specs.declared.error.LinkError.TheVariants.{Memory};
-ghost use Rattle.bl_link.specs.declared.part.Part.{Part};
+ghost use Rattle.bl_link.specs.{Links.links, declared.error.LinkError.TheVariants.Memory, declared.part.Part.Part};
 
 /// What is linked of valid parts within the limits can be run: each body has a typing in the tree, and what its parts name exists.
 pub fn what_is_linked_can_run()

@@ -1,6 +1,5 @@
 //! Which import an external value can be given to (section 4.5.2).
-ghost use Rattle.std.specs.Prelude.{◌≡◌, slice_get};
-ghost use Rattle.std.specs.Cmp.Lexicographic.{pointwise};
+ghost use Rattle.std.specs.{Prelude.◌≡◌, Prelude.slice_get, Cmp.Lexicographic.pointwise};
 ghost use Rattle.bl_link.specs.ImportMatches.{matches as matches_of, passes, same as same_of, same_global as same_global_of, same_type as same_type_of, within as within_of};
 
 use crate::store::{External, Store};

@@ -1,11 +1,8 @@
 //! The names of exports in the tree.
 ghost use Rattle.std.specs.Prelude.{◌≡◌, ◌++◌, ℕ, List as Listed, filter_map, map, IfOk};
 ghost use Rattle.bl_wasm.specs.Exports.{AreDistinct};
-ghost use Rattle.bl_link.specs.Links.{exported as exported_of, pair};
-ghost use Rattle.bl_link.specs.ExportNames.{qualified as qualified_of};
-ghost use Rattle.bl_link.specs.OwnNames.{own};
-ghost use Rattle.bl_link.specs.IndexSpaces.{space as space_of};
-ghost use Rattle.bl_link.specs.Stores.{AreApart};
+ghost use Rattle.bl_link.specs.{Links.exported as exported_of, Links.pair, ExportNames.qualified as qualified_of, OwnNames.own};
+ghost use Rattle.bl_link.specs.{IndexSpaces.space as space_of, Stores.AreApart};
 
 use crate::all_names::AllNames;
 use crate::rename::number;
@@ -49,7 +46,11 @@ fn external(spaces: &Spaces, entry: &Export) -> External
 }
 
 /// The exports of a part by their own names.
-fn own_names(alloc: Global, spaces: &Spaces, entries: &[Export]) -> Result<Named<External>, NoMemory>
+fn own_names(
+    alloc: Global,
+    spaces: &Spaces,
+    entries: &[Export],
+) -> Result<Named<External>, NoMemory>
     requires { AreApart (λ entry. entry.name) entries.now }
     ensures { IfOk result (λ names. names ≡ map (own spaces.now) entries.now) }
 {

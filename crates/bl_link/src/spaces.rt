@@ -1,8 +1,7 @@
 //! The spaces of a part.
 ghost use Rattle.std.specs.Prelude.{◌≡◌, ◌+◌, ◌<◌, ◌^◌, ◌++◌, IfOk};
 ghost use Rattle.std.specs.List.{range_with_len};
-ghost use Rattle.bl_link.specs.HasRoom.{HasNumbers};
-ghost use Rattle.bl_link.specs.IndexSpaces.{of_kind as of_kind_of, spaces_of as spaces_of_part};
+ghost use Rattle.bl_link.specs.{HasRoom.HasNumbers, IndexSpaces.of_kind as of_kind_of, IndexSpaces.spaces_of as spaces_of_part};
 
 use crate::store::{External, Spaces, Store};
 use bl_base::{List, NoMemory};

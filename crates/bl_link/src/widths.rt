@@ -2,8 +2,7 @@
 ghost use Rattle.std.specs.Prelude.{◌≡◌, ◌<◌, ◌^◌};
 ghost use Rattle.std.specs.List.{All};
 ghost use Rattle.bl_base.specs.Fits.{AreBytes};
-ghost use Rattle.bl_wasm.specs.Linked.{HasImmediates};
-ghost use Rattle.bl_wasm.specs.Validity.{Typed};
+ghost use Rattle.bl_wasm.specs.{Linked.HasImmediates, Validity.Typed};
 ghost use Rattle.bl_link.specs.Linkable.{HasWidths, IsSound};
 
 use crate::part::Part;

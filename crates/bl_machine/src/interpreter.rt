@@ -5,10 +5,8 @@ ghost use Rattle.bl_base.specs.Fits.{PatchFits};
 ghost use Rattle.bl_base.specs.Runs.{AnswersRun, memory_of, outcome_of};
 ghost use Rattle.bl_wasm.specs.Linked.{IsLinked};
 ghost use Rattle.bl_reduce.specs.Outcomes.{IsStart, first_store, source};
-ghost use Rattle.bl_machine.specs.Bodies.{prepared_of};
+ghost use Rattle.bl_machine.specs.{Bodies.prepared_of, Machines.BecomesIfOk, Transitions.advanced};
 ghost use Rattle.bl_machine.specs.InterpreterAnswers.{Drives, TellsMemories, has_ended, starting, machine_outcome};
-ghost use Rattle.bl_machine.specs.Machines.{BecomesIfOk};
-ghost use Rattle.bl_machine.specs.Transitions.{advanced};
 
 use crate::body::{Prepared, prepare};
 use crate::items::{enter, step_in};

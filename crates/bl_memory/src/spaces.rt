@@ -1,11 +1,9 @@
 //! The memories of a run.
 ghost use Rattle.std.specs.Prelude.{◌≡◌, ◌+◌, ◌^◌, ◌<◌, ◌≤◌, [], IfOk, IsTrue, OnOk, length, map, nat_le, set};
 ghost use Rattle.std.specs.List.{All};
-ghost use Rattle.bl_base.specs.Bytes.{write};
-ghost use Rattle.bl_base.specs.Runs.{memory_of};
+ghost use Rattle.bl_base.specs.{Bytes.write, Runs.memory_of};
 ghost use Rattle.bl_ops.specs.Access.{width_of};
-ghost use Rattle.bl_reduce.specs.Memory.{grow};
-ghost use Rattle.bl_reduce.specs.Outcomes.{first_memory};
+ghost use Rattle.bl_reduce.specs.{Memory.grow, Outcomes.first_memory};
 ghost use Rattle.bl_wasm.specs.Linked.{IsMemory};
 ghost use Rattle.bl_memory.specs.Spaces.{loaded_at, patched_all, patched_once, space_at, stored_at};
 

@@ -1,7 +1,6 @@
 //! Memories, as they are told at a run's end.
 ghost use Rattle.std.specs.Prelude.{◌≡◌, ◌++◌, ◌∷◌, [], ◌↔◌, ◌+◌, ◌<◌, ◌^◌, codes, false, map, IfOk, IsTrue, slice_index};
-ghost use Rattle.std.specs.Fmt.{decimal, digits};
-ghost use Rattle.std.specs.List.{flat_map};
+ghost use Rattle.std.specs.{Fmt.decimal, Fmt.digits, List.flat_map};
 ghost use Rattle.bl_base.specs.Runs.{memory_of};
 ghost use Rattle.bl_outcome.specs.Lines.{line};
 ghost use Rattle.bl_outcome.specs.Outcomes.{bytes_at, hex_text, initial_bytes, memories_text, memory_text, row_text, rows_text};

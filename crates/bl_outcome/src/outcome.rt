@@ -1,8 +1,7 @@
 //! How a run ended, as it is told.
 ghost use Rattle.std.specs.Prelude.{◌≡◌, ◌++◌, IfOk, codes, map};
 ghost use Rattle.std.specs.Fmt.{decimal};
-ghost use Rattle.bl_base.specs.Trap.{text_of};
-ghost use Rattle.bl_base.specs.Runs.{memory_of, outcome_of};
+ghost use Rattle.bl_base.specs.{Trap.text_of, Runs.memory_of, Runs.outcome_of};
 ghost use Rattle.bl_outcome.specs.Lines.{line};
 ghost use Rattle.bl_outcome.specs.Outcomes.{outcome_text, type_word, value_text, values_text};
 

@@ -1,9 +1,7 @@
 //! The files of the system as a shelf. It doesn't expose its contents.
 ghost use Rattle.std.specs.Prelude.{◌≡◌, ◌+◌, ◌≤◌, [], None, Option, IfOk, OnOk, OnErr, length, ◌↔◌, Ok, Err, Some, IfSome};
-ghost use Rattle.std.specs.Option.{option_map};
-ghost use Rattle.bl_outside.specs.Opened.{fitting, is_fitting};
-ghost use Rattle.bl_outside.specs.declared.shelf.ShelfError.TheVariants.{Memory};
-ghost use Rattle.std.specs.IoError.{error_kind};
+ghost use Rattle.std.specs.{Option.option_map, IoError.error_kind};
+ghost use Rattle.bl_outside.specs.{Opened.fitting, Opened.is_fitting, declared.shelf.ShelfError.TheVariants.Memory};
 ghost use Rattle.bl_outside.specs.Shelf.{Files as KnownFiles, FetchFaults, KeepFaults, Gives, GivesPart, faults_after_fetch, faults_after_keep, most_asked};
 
 use crate::reading::{read_on, skip};

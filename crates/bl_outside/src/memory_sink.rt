@@ -1,8 +1,6 @@
 //! A sink in memory, with a limit and with room that is reserved before.
 ghost use Rattle.std.specs.Prelude.{◌≡◌, ◌<◌, ◌≤◌, ◌-◌, ◌++◌, [], ℕ, Option, Some, None, Ok, Err, max, length, take, IfOk, IfErr, OnOk, OnErr};
-ghost use Rattle.bl_outside.specs.Faults.{one_more};
-ghost use Rattle.bl_outside.specs.Sink.{PushFaults, after_push};
-ghost use Rattle.bl_outside.specs.MemorySink.{accepted};
+ghost use Rattle.bl_outside.specs.{Faults.one_more, Sink.PushFaults, Sink.after_push, MemorySink.accepted};
 
 use crate::sink::{Sink, SinkFault};
 use bl_base::NoMemory;

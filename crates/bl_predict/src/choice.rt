@@ -2,8 +2,7 @@
 ghost use Rattle.std.specs.Prelude.{◌≡◌, length, slice_get};
 ghost use Rattle.std.specs.Option.{option_or};
 ghost use Rattle.bl_rob.specs.CallResults.{is_enabled, position_of, shown};
-ghost use Rattle.bl_rob.specs.Machines.{directive_step};
-ghost use Rattle.bl_rob.specs.declared.directive.Directive.TheVariants.{Exec};
+ghost use Rattle.bl_rob.specs.{Machines.directive_step, declared.directive.Directive.TheVariants.Exec};
 ghost use Rattle.bl_predict.specs.Drives.{chosen, execution_at, guess_at, is_asked, is_load, least, shows_read};
 
 use bl_rob::{Directive, Kind, Rob};

@@ -1,18 +1,12 @@
 //! Laws. Each function is its contract alone.
 ghost use Rattle.std.specs.Prelude.{◌≡◌, ℕ, true, IsSomeAnd, List, None};
 ghost use Rattle.bl_base.specs.declared.start.Start.{Start};
-ghost use Rattle.bl_cmd.specs.Outcomes.{Agree};
-ghost use Rattle.bl_cmd.specs.declared.definitions.ProgramParts.{ProgramParts};
-ghost use Rattle.bl_cmd.specs.Programs.{IsProgram};
-ghost use Rattle.bl_cmd.specs.Rules.{IsWellFormed};
-ghost use Rattle.bl_rob.specs.CallResults.{is_enabled};
-ghost use Rattle.bl_rob.specs.Machines.{State, end_in};
-ghost use Rattle.bl_rob.specs.ReachableStates.{IsReached};
+ghost use Rattle.bl_cmd.specs.{Outcomes.Agree, declared.definitions.ProgramParts.ProgramParts, Programs.IsProgram, Rules.IsWellFormed};
+ghost use Rattle.bl_rob.specs.{CallResults.is_enabled, Machines.State, Machines.end_in, ReachableStates.IsReached};
 ghost use Rattle.bl_rob.specs.Observations.{HasEqualObservations, observed, reached};
 ghost use Rattle.bl_rob.specs.declared.directive.Directive.{Directive};
-ghost use Rattle.bl_predict.specs.Outlines.{Outline};
+ghost use Rattle.bl_predict.specs.{Outlines.Outline, DriveDirectives.IsEachTaken};
 ghost use Rattle.bl_predict.specs.Drives.{AreSame, begun, chosen, driven};
-ghost use Rattle.bl_predict.specs.DriveDirectives.{IsEachTaken};
 
 /// The front end, the positions of the entries and the guards' predictions follow from the program, the function, the directives and
 /// their observations.

@@ -1,14 +1,10 @@
 //! Laws of runs. Each function is its contract alone.
 ghost use Rattle.std.specs.Prelude.{◌≡◌, ℕ, List as Listed};
 ghost use Rattle.bl_base.specs.Runs.{StepsTo, HasStep, Next, Outcome, ends, goes};
-ghost use Rattle.bl_base.specs.declared.names.ValueType.{ValueType};
-ghost use Rattle.bl_base.specs.declared.start.Start.{Start};
-ghost use Rattle.bl_wasm.specs.Linked.{IsLinked};
-ghost use Rattle.bl_wasm.specs.declared.linked.Tree.{Tree};
-ghost use Rattle.bl_reduce.specs.Configurations.{Config};
+ghost use Rattle.bl_base.specs.{declared.names.ValueType.ValueType, declared.start.Start.Start};
+ghost use Rattle.bl_wasm.specs.{Linked.IsLinked, declared.linked.Tree.Tree};
+ghost use Rattle.bl_reduce.specs.{Configurations.Config, Steps.source_step, TypedConfigurations.IsTyped, TypedConfigurations.IsTypedStep};
 ghost use Rattle.bl_reduce.specs.Outcomes.{IsStart, opening, source};
-ghost use Rattle.bl_reduce.specs.Steps.{source_step};
-ghost use Rattle.bl_reduce.specs.TypedConfigurations.{IsTyped, IsTypedStep};
 
 /// A step is unique: from one configuration it leads to one, or the run ends with one outcome, and not both.
 pub fn one_step()

@@ -1,12 +1,8 @@
 //! Laws of trees whose parts have other numbers. Each function is its contract alone.
 ghost use Rattle.std.specs.Prelude.{◌≡◌, ℕ};
-ghost use Rattle.bl_base.specs.Runs.{Outcome};
-ghost use Rattle.bl_base.specs.declared.start.Start.{Start};
-ghost use Rattle.bl_reduce.specs.Runnable.{IsRunnable};
+ghost use Rattle.bl_base.specs.{Runs.Outcome, declared.start.Start.Start};
+ghost use Rattle.bl_reduce.specs.{Runnable.IsRunnable, Configurations.Config, Outcomes.IsStart, Outcomes.source, Steps.source_step};
 ghost use Rattle.bl_wasm.specs.declared.linked.Tree.{Tree};
-ghost use Rattle.bl_reduce.specs.Configurations.{Config};
-ghost use Rattle.bl_reduce.specs.Outcomes.{IsStart, source};
-ghost use Rattle.bl_reduce.specs.Steps.{source_step};
 ghost use Rattle.bl_rename.specs.Renamings.{Alike, AreConfigs, AreSteps, Numbers, Renames, start_by};
 
 /// Where a tree has a step, a tree that renames it has the same one: both go on to the same configuration but for the numbers, or both end alike.

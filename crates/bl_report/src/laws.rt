@@ -1,11 +1,7 @@
 //! Laws of reports. Each function is its contract alone.
 ghost use Rattle.std.specs.Prelude.{ℕ, IsTrue};
-ghost use Rattle.bl_cmd.specs.Programs.{IsProgram};
-ghost use Rattle.bl_cmd.specs.Rules.{IsWellFormed};
-ghost use Rattle.bl_cmd.specs.Sites.{is_protected};
-ghost use Rattle.bl_cmd.specs.declared.definitions.ProgramParts.{ProgramParts};
-ghost use Rattle.bl_graph.specs.Certificates.{Certifies};
-ghost use Rattle.bl_graph.specs.declared.certificate.Certificate.{Certificate};
+ghost use Rattle.bl_cmd.specs.{Programs.IsProgram, Rules.IsWellFormed, Sites.is_protected, declared.definitions.ProgramParts.ProgramParts};
+ghost use Rattle.bl_graph.specs.{Certificates.Certifies, declared.certificate.Certificate.Certificate};
 ghost use Rattle.bl_report.specs.Reports.{HasReason};
 
 /// Where a certificate keeps the rules of a well-formed program, each protect has a reason, so it has a line.

@@ -1,7 +1,6 @@
 //! The lines of protects.
 ghost use Rattle.std.specs.Prelude.{◌≡◌, ◌++◌, All, IfOk};
-ghost use Rattle.std.specs.Fmt.{decimal};
-ghost use Rattle.std.specs.List.{flat_map};
+ghost use Rattle.std.specs.{Fmt.decimal, List.flat_map};
 ghost use Rattle.bl_cmd.specs.Sites.{IsSite};
 ghost use Rattle.bl_report.specs.SiteTables.{IsFirst};
 ghost use Rattle.bl_report.specs.Reports.{bare_protect_line, bare_protect_text, place_text, protect_line, protect_text};

@@ -1,7 +1,6 @@
 //! A program's sites and protects.
 ghost use Rattle.std.specs.Prelude.{◌≡◌, ◌+◌, ◌++◌, ◌<◌, ◌^◌, [], ◌∷◌, IfOk, if◌then◌else◌, is_some, length};
-ghost use Rattle.bl_report.specs.SiteTables.{is_protect};
-ghost use Rattle.bl_report.specs.Reports.{protects, site_count};
+ghost use Rattle.bl_report.specs.{SiteTables.is_protect, Reports.protects, Reports.site_count};
 
 use bl_base::NoMemory;
 use bl_cmd::{Mark, ProgramParts, mark_at};

@@ -2,14 +2,12 @@
 ghost use Rattle.std.specs.Prelude.{◌≡◌, ◌≤◌, ◌<◌, ◌++◌, ◌∷◌, [], ℕ, Bool, List, suc, IfErr, IfOk, IsTrue, None, OnErr, OnOk, Some, length};
 ghost use Rattle.bl_ops.specs.Access.{is_load};
 ghost use Rattle.bl_cmd.specs.Layout.{entry_of, param, result as variable_of_result, running};
-ghost use Rattle.bl_cmd.specs.Programs.{IsCommand};
-ghost use Rattle.bl_cmd.specs.declared.definitions.ProgramParts.{ProgramParts};
+ghost use Rattle.bl_cmd.specs.{Programs.IsCommand, declared.definitions.ProgramParts.ProgramParts};
 ghost use Rattle.bl_seq.specs.Layouts.{IsLayout};
 ghost use Rattle.bl_rob.specs.CallResults.{Steps, front_in, is_enabled, next_command, shown, work_in};
 ghost use Rattle.bl_rob.specs.Machines.{at_position, back, called, ended_at, fetched, grown, moved, register_of, source_of};
 ghost use Rattle.bl_rob.specs.declared.directive.Directive.TheVariants.{Fetch, Predict};
-ghost use Rattle.bl_rob.specs.declared.directive.Observation.TheVariants.{Nothing};
-ghost use Rattle.bl_rob.specs.declared.directive.StepError.TheVariants.{Memory};
+ghost use Rattle.bl_rob.specs.{declared.directive.Observation.TheVariants.Nothing, declared.directive.StepError.TheVariants.Memory};
 ghost use Rattle.bl_rob.specs.declared.entry.Work.TheVariants.{Assign, Guard, Load, Store};
 
 use crate::chain::Chain;

@@ -1,15 +1,9 @@
 //! Laws of the buffer machine. Each function is its contract alone.
 ghost use Rattle.std.specs.Prelude.{◌≡◌, ◌↔◌, ℕ, List, Option as Optional};
 ghost use Rattle.bl_base.specs.declared.start.Start.{Start};
-ghost use Rattle.bl_cmd.specs.Outcomes.{opening as plain_opening};
-ghost use Rattle.bl_cmd.specs.Steps.{Registers as Held};
-ghost use Rattle.bl_cmd.specs.declared.definitions.ProgramParts.{ProgramParts};
-ghost use Rattle.bl_rob.specs.LastWriters.{Sees};
-ghost use Rattle.bl_rob.specs.Machines.{visible};
-ghost use Rattle.bl_rob.specs.Observations.{IsConsistent, reached};
-ghost use Rattle.bl_rob.specs.declared.directive.Directive.{Directive};
-ghost use Rattle.bl_rob.specs.declared.entry.Entry.{Entry};
-ghost use Rattle.bl_rob.specs.declared.entry.Register.{Register};
+ghost use Rattle.bl_cmd.specs.{Outcomes.opening as plain_opening, Steps.Registers as Held, declared.definitions.ProgramParts.ProgramParts};
+ghost use Rattle.bl_rob.specs.{LastWriters.Sees, Machines.visible, Observations.IsConsistent, Observations.reached};
+ghost use Rattle.bl_rob.specs.{declared.directive.Directive.Directive, declared.entry.Entry.Entry, declared.entry.Register.Register};
 
 /// Consistency: whatever the directives, where r entries were retired, registers and memories are those of the plain run after
 /// r commands; and a machine that has ended has the plain run's outcome after exactly so many commands.

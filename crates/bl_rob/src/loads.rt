@@ -4,11 +4,8 @@ ghost use Rattle.bl_cmd.specs.declared.definitions.ProgramParts.{ProgramParts};
 ghost use Rattle.bl_seq.specs.Layouts.{IsLayout};
 ghost use Rattle.bl_rob.specs.CallResults.{IsRunOf, StepsBy, is_enabled_by, outcome_in, shown};
 ghost use Rattle.bl_rob.specs.LoadPolicies.{IsNoExec, answer_as, told_as, told_itself};
-ghost use Rattle.bl_rob.specs.Machines.{State, directive_step};
-ghost use Rattle.bl_rob.specs.Observations.{Rules};
-ghost use Rattle.bl_rob.specs.ReachableStates.{IsReachedBy};
-ghost use Rattle.bl_rob.specs.declared.directive.Directive.{Directive as Given};
-ghost use Rattle.bl_rob.specs.declared.directive.Directive.TheVariants.{Exec};
+ghost use Rattle.bl_rob.specs.{Machines.State, Machines.directive_step, Observations.Rules, ReachableStates.IsReachedBy};
+ghost use Rattle.bl_rob.specs.{declared.directive.Directive.Directive as Given, declared.directive.Directive.TheVariants.Exec};
 ghost use Rattle.bl_rob.specs.declared.directive.Observation.{Observation as Observing};
 
 use crate::directive::{Observation, StepError};

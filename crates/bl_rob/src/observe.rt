@@ -1,7 +1,6 @@
 //! Lists of directives.
 ghost use Rattle.std.specs.Prelude.{◌≡◌, IfOk};
-ghost use Rattle.bl_rob.specs.CallResults.{seen_in, shown};
-ghost use Rattle.bl_rob.specs.Observations.{ObservesBy};
+ghost use Rattle.bl_rob.specs.{CallResults.seen_in, CallResults.shown, Observations.ObservesBy};
 
 use crate::directive::{Directive, StepError};
 use crate::loads::Loads;

@@ -1,11 +1,9 @@
 //! What a machine tells.
 ghost use Rattle.std.specs.Prelude.{◌≡◌, Some, IfOk, slice_get, slice_index, option_map};
 ghost use Rattle.std.specs.List.{All};
-ghost use Rattle.bl_seq.specs.FinalMemories.{IsWhole, memories_of};
-ghost use Rattle.bl_seq.specs.Layouts.{IsLayout};
+ghost use Rattle.bl_seq.specs.{FinalMemories.IsWhole, FinalMemories.memories_of, Layouts.IsLayout};
 ghost use Rattle.bl_rob.specs.CallResults.{IsEntryKind, IsRunOf, kind_of, outcome_in, position_of, shown};
-ghost use Rattle.bl_rob.specs.Machines.{end_in};
-ghost use Rattle.bl_rob.specs.declared.directive.End.{End as Ending};
+ghost use Rattle.bl_rob.specs.{Machines.end_in, declared.directive.End.End as Ending};
 
 use crate::directive::{End, Kind};
 use crate::entry::Work;

@@ -1,14 +1,12 @@
 //! Executing and retiring.
 ghost use Rattle.std.specs.Prelude.{◌≡◌, ◌≤◌, ◌<◌, ◌^◌, ℕ, [], suc, IfSome, IsTrue, OnErr, OnOk, Some, drop, length, slice_get, take};
-ghost use Rattle.bl_cmd.specs.Steps.{stored, written};
-ghost use Rattle.bl_cmd.specs.declared.definitions.ProgramParts.{ProgramParts};
+ghost use Rattle.bl_cmd.specs.{Steps.stored, Steps.written, declared.definitions.ProgramParts.ProgramParts};
 ghost use Rattle.bl_seq.specs.Layouts.{IsLayout};
 ghost use Rattle.bl_rob.specs.CallResults.{Executes, Steps, is_enabled, shown, rolled_back_at};
-ghost use Rattle.bl_rob.specs.Effects.{effect_of, first_effect};
+ghost use Rattle.bl_rob.specs.{Effects.effect_of, Effects.first_effect, declared.entry.Entry.Entry};
 ghost use Rattle.bl_rob.specs.Machines.{at_position, become, ended_at, is_guard, without};
 ghost use Rattle.bl_rob.specs.declared.directive.Directive.TheVariants.{Exec, Retire};
 ghost use Rattle.bl_rob.specs.declared.directive.End.TheVariants as ending;
-ghost use Rattle.bl_rob.specs.declared.entry.Entry.{Entry};
 
 use crate::chain::Chain;
 use crate::directive::{End, Observation, StepError};

@@ -1,8 +1,7 @@
 //! Whether a program is safe under speculation.
 ghost use Rattle.std.specs.Prelude.{IfOk};
 ghost use Rattle.bl_cmd.specs.Sites.{is_protected};
-ghost use Rattle.bl_graph.specs.Graphs.{IsGraph};
-ghost use Rattle.bl_graph.specs.Labels.{ConstantTime};
+ghost use Rattle.bl_graph.specs.{Graphs.IsGraph, Labels.ConstantTime};
 ghost use Rattle.bl_sct.specs.Verdicts.{Assesses};
 ghost use Rattle.bl_transient.specs.Verdicts.{IsFirstLeak};
 

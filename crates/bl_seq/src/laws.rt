@@ -1,10 +1,7 @@
 //! Laws of the plain runs of well-formed programs. Each function is its contract alone.
 ghost use Rattle.std.specs.Prelude.{◌≡◌, IfSome, Some};
 ghost use Rattle.bl_base.specs.Runs.{HasStep};
-ghost use Rattle.bl_cmd.specs.Layout.{command_at};
-ghost use Rattle.bl_cmd.specs.Rules.{reach_of};
-ghost use Rattle.bl_cmd.specs.Steps.{Plain, plain_step};
-ghost use Rattle.bl_cmd.specs.declared.command.Command.{Command};
+ghost use Rattle.bl_cmd.specs.{Layout.command_at, Rules.reach_of, Steps.Plain, Steps.plain_step, declared.command.Command.Command};
 ghost use Rattle.bl_cmd.specs.declared.definitions.ProgramParts.{ProgramParts};
 ghost use Rattle.bl_seq.specs.OwnMemory.{IsReached, IsInside, HasSizes};
 

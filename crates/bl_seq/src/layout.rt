@@ -3,9 +3,7 @@ ghost use Rattle.std.specs.Prelude.{◌≡◌, ◌≤◌, ◌+◌, ◌*◌, ◌^
 ghost use Rattle.bl_base.specs.Quantity.{limit_of};
 ghost use Rattle.bl_base.specs.declared.quantity.Quantity.TheVariants as quantity;
 ghost use Rattle.bl_cmd.specs.Layout.{base, entry_of, first_of, params_of, result as variable_of_result, results_of, running, statics, sum_before};
-ghost use Rattle.bl_cmd.specs.Rules.{IsWellFormed};
-ghost use Rattle.bl_cmd.specs.Programs.{IsProgram};
-ghost use Rattle.bl_cmd.specs.Steps.{held};
+ghost use Rattle.bl_cmd.specs.{Rules.IsWellFormed, Programs.IsProgram, Steps.held};
 ghost use Rattle.bl_seq.specs.Layouts.{IsLayout, ends_from, frame_of, frames_from, owners_from};
 
 use bl_base::NoMemory;

@@ -1,13 +1,9 @@
 //! The machine before the first step.
 ghost use Rattle.std.specs.Prelude.{◌≡◌, ℕ, ◌^◌, ◌<◌, ◌-◌, ◌*◌, ◌++◌, IfOk, OnOk, length, map, replicate};
 ghost use Rattle.std.specs.List.{All};
-ghost use Rattle.bl_base.specs.Bytes.{patched};
-ghost use Rattle.bl_base.specs.Runs.{memory_of};
+ghost use Rattle.bl_base.specs.{Bytes.patched, Runs.memory_of, Fits.PatchFits};
 ghost use Rattle.bl_cmd.specs.Outcomes.{IsStart, first_memories, first_memory, first_registers, opening, space_of};
-ghost use Rattle.bl_base.specs.Fits.{PatchFits};
-ghost use Rattle.bl_seq.specs.InitialMemories.{LiesInside};
-ghost use Rattle.bl_seq.specs.RegisterTrees.{filled, register_at};
-ghost use Rattle.bl_seq.specs.Layouts.{IsLayout};
+ghost use Rattle.bl_seq.specs.{InitialMemories.LiesInside, RegisterTrees.filled, RegisterTrees.register_at, Layouts.IsLayout};
 ghost use Rattle.bl_seq.specs.Machines.{shown};
 
 use crate::chain::Chain;

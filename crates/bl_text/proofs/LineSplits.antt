@@ -114,6 +114,7 @@ line_count byte bytes =
     ended : List ℕ → ℕ
     ended [] = 0
     ended (byte ∷ bytes) = cond (byte == 10) (1 + ended bytes) (ended bytes)
+
     go : (byte : ℕ) (bytes : List ℕ) → length (lines_of (byte ∷ bytes)) ≡ ended (byte ∷ bytes) + lacking (get_or (byte ∷ bytes) (length bytes) 0)
     go byte [] = elim (byte == 10) as (λ b. length (cond b ([] ∷ []) (onto_first byte [])) ≡ cond b 1 0 + cond b 0 1) [ true ↦ refl | false ↦ refl ]
     go byte (next ∷ bytes) =

@@ -1,6 +1,5 @@
 //! The names of modules, by their files.
-ghost use Rattle.std.specs.Prelude.{◌≡◌, nat_eq};
-ghost use Rattle.std.specs.List.{after_last};
+ghost use Rattle.std.specs.{Prelude.◌≡◌, Prelude.nat_eq, List.after_last};
 ghost use Rattle.bl_text.specs.Names.{module_name as module_name_of, without_ending as name_without_ending};
 
 /// The name of the module in a file: what stands behind the last `/` of its word, without one final

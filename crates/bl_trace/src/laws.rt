@@ -1,15 +1,10 @@
 //! Laws of the definitions. Each function is its contract alone.
 ghost use Rattle.std.specs.Prelude.{◌≡◌, ◌↔◌, ℕ, List as Listed, Result as Either, Ok, length};
 ghost use Rattle.std.specs.List.{All};
-ghost use Rattle.bl_base.specs.Fits.{Fits};
-ghost use Rattle.bl_base.specs.declared.names.ValueType.{ValueType};
-ghost use Rattle.bl_base.specs.declared.start.Start.{Start};
-ghost use Rattle.bl_text.specs.Items.{TellItems};
-ghost use Rattle.bl_text.specs.Lines.{lines_of};
+ghost use Rattle.bl_base.specs.{Fits.Fits, declared.names.ValueType.ValueType, declared.start.Start.Start};
+ghost use Rattle.bl_text.specs.{Items.TellItems, Lines.lines_of};
 ghost use Rattle.bl_rob.specs.declared.directive.Directive.{Directive};
-ghost use Rattle.bl_trace.specs.declared.error.StartError.{StartError};
-ghost use Rattle.bl_trace.specs.StartFiles.{answer_of};
-ghost use Rattle.bl_trace.specs.StartAnswers.{Tells};
+ghost use Rattle.bl_trace.specs.{declared.error.StartError.StartError, StartFiles.answer_of, StartAnswers.Tells};
 ghost use Rattle.bl_trace.specs.Traces.{IsWritten, directive_of, trace_of, trace_text};
 
 /// A start that a file asks for fits the function.

@@ -1,7 +1,6 @@
 //! Lines of observations.
 ghost use Rattle.std.specs.Prelude.{◌≡◌, ◌++◌, ◌∷◌, [], ◌<◌, ◌≤◌, OnErr, OnOk, IfOk, codes};
-ghost use Rattle.std.specs.Fmt.{decimal};
-ghost use Rattle.std.specs.List.{flat_map, range_with_len};
+ghost use Rattle.std.specs.{Fmt.decimal, List.flat_map, List.range_with_len};
 ghost use Rattle.bl_trace.specs.Observations.{guard_text, guards_text, observation_text};
 
 use bl_base::NoMemory;

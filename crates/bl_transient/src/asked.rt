@@ -1,9 +1,6 @@
 //! What is asked of variables beside the rules, by lists.
 ghost use Rattle.std.specs.Prelude.{◌≡◌, ◌<◌, ◌↔◌, ℕ, [], All, AllPairs, Contains, IfOk, IsTrue, length, map};
-ghost use Rattle.bl_graph.specs.Arcs.{is_in};
-ghost use Rattle.bl_graph.specs.Graphs.{IsGraph};
-ghost use Rattle.bl_graph.specs.Names.{AreNames, place_of};
-ghost use Rattle.bl_graph.specs.Ranges.{variables};
+ghost use Rattle.bl_graph.specs.{Arcs.is_in, Graphs.IsGraph, Names.AreNames, Names.place_of, Ranges.variables};
 
 use bl_base::{List, NoMemory};
 use bl_cmd::WellFormed;

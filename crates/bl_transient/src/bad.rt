@@ -1,9 +1,7 @@
 //! Where a set of protected sites fails what is asked of variables.
 ghost use Rattle.std.specs.Prelude.{◌≡◌, ◌++◌, ◌<◌, ◌↔◌, ℕ, All, Contains, IfOk, OnOk, length};
 ghost use Rattle.std.specs.FinSet as fin;
-ghost use Rattle.bl_graph.specs.Graphs.{IsGraph};
-ghost use Rattle.bl_graph.specs.Names.{AreNames};
-ghost use Rattle.bl_graph.specs.Ranges.{variables};
+ghost use Rattle.bl_graph.specs.{Graphs.IsGraph, Names.AreNames, Ranges.variables};
 ghost use Rattle.bl_transient.specs.Reachability.{stable_loads, stable_noted, stable_reads, noted_load, noted_read};
 ghost use Rattle.bl_transient.specs.Verdicts.{AreBars, JudgesUnder, asked_of};
 

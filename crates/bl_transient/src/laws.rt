@@ -1,10 +1,7 @@
 //! Laws of transient variables and passing sets. Each function is its contract alone.
 ghost use Rattle.std.specs.Prelude.{◌↔◌, ◌≤◌, ℕ, Any, Bool, IsTrue, List as Listed};
-ghost use Rattle.bl_cmd.specs.Sites.{SinkReads, weight_of};
-ghost use Rattle.bl_cmd.specs.declared.definitions.ProgramParts.{ProgramParts};
-ghost use Rattle.bl_graph.specs.Certificates.{CertifiesSet};
-ghost use Rattle.bl_graph.specs.Chains.{IsChain};
-ghost use Rattle.bl_graph.specs.Ranges.{AreInRange, AreSites};
+ghost use Rattle.bl_cmd.specs.{Sites.SinkReads, Sites.weight_of, declared.definitions.ProgramParts.ProgramParts};
+ghost use Rattle.bl_graph.specs.{Certificates.CertifiesSet, Chains.IsChain, Ranges.AreInRange, Ranges.AreSites};
 ghost use Rattle.bl_graph.specs.declared.certificate.Certificate.{Certificate};
 ghost use Rattle.bl_transient.specs.Transient.{Assigns, Passes, Trans};
 

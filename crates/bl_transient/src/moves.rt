@@ -1,9 +1,7 @@
 //! From a graph's lists to roots and moves of transient values, and where these lead.
 ghost use Rattle.std.specs.Prelude.{◌≡◌, ◌++◌, ◌<◌, ◌↔◌, ℕ, All, IfOk, IsTrue, OnOk, Some, length, map};
 ghost use Rattle.std.specs.FinSet as fin;
-ghost use Rattle.bl_graph.specs.Arcs.{is_in};
-ghost use Rattle.bl_graph.specs.Graphs.{IsGraph};
-ghost use Rattle.bl_graph.specs.Names.{AreNames, numbered};
+ghost use Rattle.bl_graph.specs.{Arcs.is_in, Graphs.IsGraph, Names.AreNames, Names.numbered};
 ghost use Rattle.bl_graph.specs.WrittenVariables.{AreUnprotected, noted};
 ghost use Rattle.bl_transient.specs.Reachability.{Spread, listed, moved_to, moves_from, roots_from};
 

@@ -1,10 +1,7 @@
 //! Which variables are transient, where a set of sites is protected.
 ghost use Rattle.std.specs.Prelude.{◌≡◌, ◌<◌, ◌↔◌, ℕ, All, Contains, IsTrue, IfOk, Some, length, map, slice_get};
 ghost use Rattle.std.specs.FinSet as fin;
-ghost use Rattle.bl_graph.specs.Graphs.{IsGraph};
-ghost use Rattle.bl_graph.specs.Names.{AreNames};
-ghost use Rattle.bl_graph.specs.Ranges.{variables};
-ghost use Rattle.bl_graph.specs.Arcs.{is_in};
+ghost use Rattle.bl_graph.specs.{Graphs.IsGraph, Names.AreNames, Ranges.variables, Arcs.is_in};
 ghost use Rattle.bl_transient.specs.Reachability.{FirstSink, IsLower, flow_type};
 ghost use Rattle.bl_transient.specs.Transient.{Trans, TransUnder};
 ghost use Rattle.bl_transient.specs.Verdicts.{IsFirstLeak, Judges, asked_of};

@@ -1,7 +1,6 @@
 //! Whether two starts agree in public.
 ghost use Rattle.std.specs.Prelude.{◌≡◌, ◌↔◌, IfOk, IsTrue, length, map};
-ghost use Rattle.bl_base.specs.Runs.{memory_of};
-ghost use Rattle.bl_base.specs.declared.names.Label.TheVariants.{Public};
+ghost use Rattle.bl_base.specs.{Runs.memory_of, declared.names.Label.TheVariants.Public};
 ghost use Rattle.bl_cmd.specs.Outcomes.{Agree, IsStart};
 ghost use Rattle.bl_twin.specs.PublicAgreement.{AgreeWherePublic};
 

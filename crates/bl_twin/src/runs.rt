@@ -1,9 +1,7 @@
 //! Two runs of a function on the same directives, each from its own start.
 ghost use Rattle.std.specs.Prelude.{◌≡◌, ◌≤◌, IfOk};
 ghost use Rattle.bl_cmd.specs.Outcomes.{IsStart};
-ghost use Rattle.bl_rob.specs.CallResults.{seen_in};
-ghost use Rattle.bl_rob.specs.Machines.{opening};
-ghost use Rattle.bl_rob.specs.Observations.{observed_by};
+ghost use Rattle.bl_rob.specs.{CallResults.seen_in, Machines.opening, Observations.observed_by};
 ghost use Rattle.bl_twin.specs.Runs.{IsSideBySide, IsSideBySideBy};
 
 use crate::agreement::agree;

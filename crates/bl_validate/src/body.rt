@@ -2,10 +2,9 @@
 //! 2.0, section 3.2.2).
 ghost use Rattle.std.specs.Prelude.{◌≡◌, ◌≢◌, ◌↔◌, ◌≤◌, ◌^◌, List, [], ◌∷◌, IsTrue, IfOk, Some, length, slice_get, replicate, option_map};
 ghost use Rattle.std.specs.List.{All};
-ghost use Rattle.bl_wasm.specs.Instructions.{IsPlain};
+ghost use Rattle.bl_wasm.specs.{Instructions.IsPlain, declared.types.WasmType.WasmType};
 ghost use Rattle.bl_wasm.specs.Typing.{Context, IsTyping, integer as wasm_integer, expanded as expanded_type};
 ghost use Rattle.bl_wasm.specs.declared.instruction.Instr.TheVariants as Instr;
-ghost use Rattle.bl_wasm.specs.declared.types.WasmType.{WasmType};
 ghost use Rattle.bl_wasm.specs.declared.types.WasmType.TheVariants as WasmType;
 ghost use Rattle.bl_ops.specs.Access.{width_of};
 ghost use Rattle.bl_validate.specs.HasEffect.{Means};

@@ -1,7 +1,6 @@
 //! What is known of the operands that stand in one construct (WebAssembly 1.0, appendix "Validation Algorithm").
 ghost use Rattle.std.specs.Prelude.{◌≡◌, ◌↔◌, ◌++◌, List, [], ◌∷◌, IsTrue, OnOk, IfOk, MatchOption};
-ghost use Rattle.bl_wasm.specs.Typing.{Arrow};
-ghost use Rattle.bl_wasm.specs.declared.types.WasmType.{WasmType};
+ghost use Rattle.bl_wasm.specs.{Typing.Arrow, declared.types.WasmType.WasmType};
 ghost use Rattle.bl_wasm.specs.declared.types.WasmType.TheVariants as WasmType;
 ghost use Rattle.bl_validate.specs.HasEffect.{HasEffect, inputs_of};
 ghost use Rattle.bl_validate.specs.MayStand.{MayStand, Fits, Pops, known};

@@ -1,9 +1,8 @@
 //! What is known of the operands and the open constructs at a place of a body (WebAssembly 1.0, appendix "Validation
 //! Algorithm").
 ghost use Rattle.std.specs.Prelude.{◌≡◌, ◌↔◌, ◌++◌, List, [], ◌∷◌, IsTrue, OnOk, IfOk, MatchOption, slice_get, option_map};
-ghost use Rattle.bl_wasm.specs.OpenConstructs.{then_part};
+ghost use Rattle.bl_wasm.specs.{OpenConstructs.then_part, declared.types.WasmType.WasmType};
 ghost use Rattle.bl_wasm.specs.Typing.{Context, Open, opened, taken_by};
-ghost use Rattle.bl_wasm.specs.declared.types.WasmType.{WasmType};
 ghost use Rattle.bl_wasm.specs.declared.instruction.Instr.TheVariants as Instr;
 ghost use Rattle.bl_validate.specs.HasEffect.{HasEffect};
 ghost use Rattle.bl_validate.specs.Represents.{Represents, Steps, IsOpen, labels_in, construct_type, nesting_kind};

@@ -1,8 +1,7 @@
 //! Whether a module is valid, and why it isn't.
 ghost use Rattle.std.specs.Prelude.{◌≡◌, ◌≢◌, ◌↔◌, ◌⊎◌, ◌<◌, ℕ, IsTrue, IfOk, IfErr, MatchOption, length, ◌^◌, slice_get, Some};
 ghost use Rattle.bl_wasm.specs.Validity.{functions_of, HasTyping, Typed};
-ghost use Rattle.bl_validate.specs.Scopes.{IsScope};
-ghost use Rattle.bl_validate.specs.Verdicts.{IsLeast, IsReason};
+ghost use Rattle.bl_validate.specs.{Scopes.IsScope, Verdicts.IsLeast, Verdicts.IsReason};
 
 use crate::body::has_typing;
 use crate::rules::is_valid;

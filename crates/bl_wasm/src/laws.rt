@@ -1,17 +1,12 @@
 //! Laws of the grammar and of typings. Each function is its contract alone.
 ghost use Rattle.std.specs.Prelude.{◌≡◌, ◌↔◌, ◌++◌, ℕ, ◌≤◌, true, List, [], ◌∷◌, length, map, slice_get, Some};
-ghost use Rattle.bl_wasm.specs.Instructions.{Nests};
+ghost use Rattle.bl_wasm.specs.{Instructions.Nests, Reached.is_reached, Sequences.IsConstruct, Sequences.Sequence, TypedPlaces.IsOpenAt};
 ghost use Rattle.bl_wasm.specs.OpenConstructs.{Closes, else_part, of_block, of_loop, open_through, then_part};
-ghost use Rattle.bl_wasm.specs.Reached.{is_reached};
 ghost use Rattle.bl_wasm.specs.IndexMaps.{NameAlike, Names, renamed};
-ghost use Rattle.bl_wasm.specs.Sequences.{IsConstruct, Sequence};
-ghost use Rattle.bl_wasm.specs.TypedPlaces.{IsOpenAt};
 ghost use Rattle.bl_wasm.specs.Typing.{Context, IsTyping, Open, Spaces, Types, labels, placed};
 ghost use Rattle.bl_wasm.specs.declared.instruction.Instr.TheVariants as instr;
-ghost use Rattle.bl_wasm.specs.declared.instruction.Instr.{Instr};
-ghost use Rattle.bl_wasm.specs.declared.types.BlockType.{BlockType};
+ghost use Rattle.bl_wasm.specs.{declared.instruction.Instr.Instr, declared.types.BlockType.BlockType, declared.types.WasmType.WasmType};
 ghost use Rattle.bl_wasm.specs.declared.types.WasmType.TheVariants as kind;
-ghost use Rattle.bl_wasm.specs.declared.types.WasmType.{WasmType};
 
 /// Items nest exactly where each may stand behind those before it, and where they close what they open: where nothing is open
 /// behind them.

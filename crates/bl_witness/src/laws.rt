@@ -1,13 +1,8 @@
 //! Laws of certificates. Each function is its contract alone.
 ghost use Rattle.std.specs.Prelude.{◌≡◌, ℕ, Ok};
 ghost use Rattle.bl_cmd.specs.declared.definitions.ProgramParts.{ProgramParts};
-ghost use Rattle.bl_graph.specs.Certificates.{Certifies};
-ghost use Rattle.bl_graph.specs.declared.certificate.Certificate.{Certificate};
-ghost use Rattle.bl_graph.specs.Ranges.{AreInRange};
-ghost use Rattle.bl_witness.specs.Shapes.{ReadsCertificate};
-ghost use Rattle.bl_witness.specs.Texts.{certificate_text};
-ghost use Rattle.bl_witness.specs.Values.{IsInRange};
-ghost use Rattle.bl_witness.specs.Verdicts.{Breaks};
+ghost use Rattle.bl_graph.specs.{Certificates.Certifies, declared.certificate.Certificate.Certificate, Ranges.AreInRange};
+ghost use Rattle.bl_witness.specs.{Shapes.ReadsCertificate, Texts.certificate_text, Values.IsInRange, Verdicts.Breaks};
 
 /// A certificate with a broken rule doesn't keep the rules, and the first broken rule is one, with its index. So a certificate
 /// has one verdict.

@@ -1,8 +1,7 @@
 //! Certificates read from JSON.
 ghost use Rattle.std.specs.Prelude.{◌≡◌, Err, IfOk, IsUtf8};
 ghost use Rattle.json.specs.Lex.{tokens};
-ghost use Rattle.serde_json.specs.Data.{Data};
-ghost use Rattle.serde_json.specs.Read.{read};
+ghost use Rattle.serde_json.specs.{Data.Data, Read.read};
 ghost use Rattle.bl_witness.specs.Shapes.{IsJson, ReadsCertificate, certificate_of};
 ghost use Rattle.bl_witness.specs.Taken.{LacksValue, TakesValue};
 

@@ -2,8 +2,7 @@
 ghost use Rattle.std.specs.Prelude.{◌≡◌, IfOk, count_by};
 ghost use Rattle.bl_cmd.specs.Sites.{is_protected};
 ghost use Rattle.bl_graph.specs.Graphs.{IsGraph};
-ghost use Rattle.bl_witness.specs.LookupAnswers.{JudgesPath, JudgesPaths};
-ghost use Rattle.bl_witness.specs.Verdicts.{Checks, Means};
+ghost use Rattle.bl_witness.specs.{LookupAnswers.JudgesPath, LookupAnswers.JudgesPaths, Verdicts.Checks, Verdicts.Means};
 
 use crate::chains::is_chain;
 use crate::loads::overloaded;

@@ -1,9 +1,7 @@
 //! Certificates written as JSON.
 ghost use Rattle.std.specs.Prelude.{◌≡◌, ◌<◌, ◌^◌, All, IfOk, flat_map, map};
-ghost use Rattle.bl_witness.specs.Shapes.{IsReadAs};
-ghost use Rattle.bl_witness.specs.Texts.{certificate_text};
+ghost use Rattle.bl_witness.specs.{Shapes.IsReadAs, Texts.certificate_text, Values.IsInRange, Values.IsPathInRange};
 ghost use Rattle.bl_witness.specs.Tokens.{Adds, certificate_tokens, path_tokens, site_token};
-ghost use Rattle.bl_witness.specs.Values.{IsInRange, IsPathInRange};
 
 use bl_base::{NoMemory, Pos, Text};
 use bl_graph::{Certificate, FlowPath};

@@ -1,8 +1,7 @@
 //! The command line, as `clap` is told it, and what `clap` makes of words.
 ghost use Rattle.std.specs.Prelude.{◌≡◌, IfOk, IfErr, map, string_bytes, [], false};
-ghost use Rattle.clap.specs.Walk.{texts};
+ghost use Rattle.clap.specs.{Walk.texts, declared.builder.command.Command.TheViews.out-Command as fields_of};
 ghost use Rattle.clap.specs.Words.{app_of, fault_of, kind_of, rule_of, subcommand_of, subcommand_rows_of};
-ghost use Rattle.clap.specs.declared.builder.command.Command.TheViews.{out-Command as fields_of};
 ghost use Rattle.bl_words.specs.CommandLine.{argument_rule, bare_app, blade_app, command_shape, option_rule, with_commands as commands_in};
 
 use clap::error::ErrorKind;

@@ -1,8 +1,7 @@
 //! The values of options.
 ghost use Rattle.std.specs.Prelude.{◌≡◌, option_map};
 ghost use Rattle.clap.specs.Walk.{texts};
-ghost use Rattle.bl_words.specs.Requests.{is_value as may_be_value, value_of as value_among};
-ghost use Rattle.bl_words.specs.Words.{text_in};
+ghost use Rattle.bl_words.specs.{Requests.is_value as may_be_value, Requests.value_of as value_among, Words.text_in};
 
 /// The value of an option, by all that it is given: at most one may stand, and it isn't empty and doesn't begin with `-`.
 pub fn value_of<'a>(values: &[&'a str]) -> Option<Option<&'a str>>
