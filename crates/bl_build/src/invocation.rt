@@ -34,7 +34,7 @@ pub fn prepare_invocation<'a>(
     ensures invoked { IsStaged (invoking export.now bytes.now) (invoked_in tree.now) tree.now result }
     ensures fits { IfOk result (λ invocation. IsStart tree.now invocation.function invocation.start) }
 {
-    let Some(function) = tree.exports.find(export.as_bytes()) else {
+    let Some(function) = tree.exports.find(export) else {
         return Err(no_export(alloc));
     };
     let kind = signature(tree, function);

@@ -51,7 +51,7 @@ impl PartNames {
         ensures { result ≡ value_named name.now (of_part self.now) }
     {
         match own_name(self.part.as_slice(), name) {
-            Some(own) => self.exports.find(own),
+            Some(own) => self.exports.get(own),
             None => None,
         }
     }

@@ -44,7 +44,14 @@ impl<T: Copy + Drop> Named<T> {
     }
 
     /// The value of that name; None exactly where no pair has the name. Takes no memory.
-    pub fn find(&self, name: &[u8]) -> Option<T>
+    pub fn find(&self, name: &str) -> Option<T>
+        ensures { result ≡ value_named name.now self.now }
+    {
+        self.get(name.as_bytes())
+    }
+
+    /// The same by the bytes of a name, which may be any.
+    pub fn get(&self, name: &[u8]) -> Option<T>
         ensures { result ≡ value_named name.now self.now }
     {
         self.map.get(name).copied()

@@ -13,7 +13,7 @@ fn number(known: &mut Named<usize>, text: Vec<u8>, next: usize) -> Result<usize,
     ensures value { IfOk result (λ number. number ≡ unwrap_or (value_named text.items known.old) next) }
     ensures after { OnOk result (known.new ≡ with_number (value_named text.items known.old) text.items next known.old) }
 {
-    if let Some(number) = known.find(&text) {
+    if let Some(number) = known.get(&text) {
         return Ok(number);
     }
     known.add(text, next)?;

@@ -8,13 +8,13 @@ use std::test::Fail;
 
 /// Whether the one export is function 7, `a/f`.
 fn has_one(exports: &Exports) -> bool {
-    exports.find(b"a/f") == Some(7) && exports.find(b"a/g").is_none() && exports.len() == 1
+    exports.find("a/f") == Some(7) && exports.find("a/g").is_none() && exports.len() == 1
 }
 
 /// Whether that function is found once it is added, and not before.
 fn is_found(alloc: Global) -> Result<bool, NoMemory> {
     let mut exports = Exports::new(alloc);
-    let found_before = exports.find(b"a/f").is_some();
+    let found_before = exports.find("a/f").is_some();
     exports.add(b"a/f".to_vec(alloc)?, 7)?;
     Ok(!found_before && has_one(&exports))
 }

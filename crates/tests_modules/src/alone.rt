@@ -12,7 +12,7 @@ static MODULE: &[u8] =
 
 /// Whether that function alone is exported.
 fn has_export(exports: &Exports) -> bool {
-    exports.len() == 1 && exports.find(b"m/f") == Some(1)
+    exports.len() == 1 && exports.find("m/f") == Some(1)
 }
 
 /// Whether the types are those two.

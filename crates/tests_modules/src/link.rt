@@ -43,10 +43,10 @@ static WITHIN: &[u8] =
 /// Whether those are the exports of the three modules.
 fn has_exports(exports: &Exports) -> bool {
     exports.len() == 4
-        && exports.find(b"a/f") == Some(0)
-        && exports.find(b"b/h") == Some(1)
-        && exports.find(b"b/f") == Some(0)
-        && exports.find(b"c/k") == Some(2)
+        && exports.find("a/f") == Some(0)
+        && exports.find("b/h") == Some(1)
+        && exports.find("b/f") == Some(0)
+        && exports.find("c/k") == Some(2)
 }
 
 /// Whether the first table is the one that the second module writes.

@@ -10,22 +10,20 @@ use Rattle.bl_build.proofs.InvocationLemmas.{exported_exists, start_of_type, sta
 use Rattle.bl_build.proofs.invocation.prepare_invocation.Goals as goal
 
 pub signature-kind-requires-clause-exists : goal.signature-kind-requires-clause-exists
-signature-kind-requires-clause-exists c = exported_exists _ _ _ c.in-Some.function c.requires.exports (sym c.in-Some.ensures)
+signature-kind-requires-clause-exists c = exported_exists _ c.args.export.now _ c.in-Some.function c.requires.exports (sym c.in-Some.ensures)
 
 pub returns-in_default-clause-invoked : goal.returns-in_default-clause-invoked
 returns-in_default-clause-invoked c =
-    let none = rw c.as_bytes.ensures.value at c.in_default.ensures in
-    told_as no_export (InvokingRefuses c.args.export.now c.args.bytes.now c.args.tree.now) (not_exported (sym none) refl) c.no_export.result c.no_export.ensures
+    told_as no_export (InvokingRefuses c.args.export.now c.args.bytes.now c.args.tree.now) (not_exported (sym c.in_default.ensures) refl) c.no_export.result c.no_export.ensures
 
 pub returns-clause-invoked : goal.returns-clause-invoked
 returns-clause-invoked c =
     let tree = c.args.tree.now in
     let bytes = c.args.bytes.now in
-    let found = rw c.as_bytes.ensures.value at c.in-Some.ensures in
     let sizes = c.as_slice-2.ensures.value ∙ c.in_ok-sizes.ensures in
     let by_type = subst (λ params. IsAnswer (answer_of params c.as_slice-2.result.now bytes) (Err c.in-Err.error)) c.as_slice.ensures c.in-Err.ensures.answer in
     let answer = subst (λ pages. IsAnswer (answer_of c.signature-kind.result.now.params pages bytes) (Err c.in-Err.error)) sizes by_type in
-    let refused = start_refused (invoked_in tree) tree c.args.export.now bytes c.in-Some.function c.signature-kind.result.now c.in-Err.error (sym found) c.signature-kind.ensures answer c.of_start.result c.of_start.ensures in
+    let refused = start_refused (invoked_in tree) tree c.args.export.now bytes c.in-Some.function c.signature-kind.result.now c.in-Err.error (sym c.in-Some.ensures) c.signature-kind.ensures answer c.of_start.result c.of_start.ensures in
     refused
 
 pub returns-in-Ok-clause-fits : goal.returns-in-Ok-clause-fits

@@ -9,7 +9,7 @@ pub returns-in-Some : goal.returns-in-Some
 returns-in-Some c =
     let own = c.in-Some.own.now in
     let one = c.args.self.now in
-    c.find.ensures ∙ sym (own_named one.part own one.exports)
+    c.get.ensures ∙ sym (own_named one.part own one.exports)
     ∙ ap (λ name. value_named name (of_part one)) (sym (c.in-Some.ensures ∙ ap (λ part. qualified part own) c.as_slice.ensures))
 
 pub returns-in-None : goal.returns-in-None
