@@ -1,0 +1,38 @@
+use Rattle.std.proofs.Common.{Bor, List, None, arith, map, rules, subst, sym, ℕ}
+use Rattle.bl_build.specs.InvocationStages.{invoking}
+use Rattle.bl_build.specs.LoadStages.{AreShort, loading, parts_of}
+use Rattle.bl_build.specs.StageAnswers.{invoked_in}
+use Rattle.bl_job.specs.Jobs.{AreRead}
+use Rattle.bl_job.specs.Stages.{ThenRefuses, at_second}
+use Rattle.bl_job.specs.WorkAnswers.{content_in, contents_in}
+use Rattle.bl_words.specs.Words.{interp_in}
+use Rattle.bl_app.specs.InterpJob.{interp_staged}
+use Rattle.bl_job.proofs.StageLemmas.{tells_on}
+use Rattle.bl_job.proofs.WorkLemmas.{as_many}
+use Rattle.bl_app.proofs.HardenLemmas.{short_modules}
+use Rattle.bl_app.proofs.interp.InterpWordsCommand.work.Goals as goal
+
+-- the words
+abbrev texts : List (Bor (List ℕ)) → List (List ℕ)
+texts words = map (λ (word : Bor (List ℕ)). word.now) words
+
+pub first_file-start-requires : goal.first_file-start-requires
+first_file-start-requires c = let many = as_many None (interp_staged (interp_in c.args.self.now)).reads c.args.contents.items c.requires.read in omega (arith, many)
+
+pub load-requires-clause-short : goal.load-requires-clause-short
+load-requires-clause-short c =
+    let modules = contents_in c.first_file-start.result.1.items in
+    let read = subst (AreRead None (interp_staged (interp_in c.args.self.now)).reads) c.first_file-start.ensures c.requires.read in
+    subst (λ (words : List (Bor (List ℕ))). AreShort (texts words) modules) (sym c.as_slice.ensures) (short_modules (texts c.args.self.now.modules) modules read.1)
+
+pub returns-in_err-invocation : goal.returns-in_err-invocation
+returns-in_err-invocation c =
+    let request = interp_in c.args.self.now in
+    let contents = c.first_file-start.result in
+    let second = invoking request.export (content_in contents.0) in
+    let parts = parts_of request.modules (contents_in contents.1.items) in
+    let refused = tells_on (second.Refuses c.in_ok-linked.linked) (ThenRefuses loading second parts) (λ refusal. at_second c.in_ok-linked.linked (search rules)) c.in_err-invocation.field-0.0 (search rules) in
+    search rules
+
+pub returns : goal.returns
+returns c = record { made = invoked_in c.in_ok-linked.linked c.in_ok-invocation.invocation; passes = search rules; plans = c.in_ok-tell.ensures }
