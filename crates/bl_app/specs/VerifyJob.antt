@@ -27,8 +27,8 @@ use Rattle.bl_app.specs.PredictJob.{EndsWith}
 use Rattle.bl_app.specs.RunJob.{image_read}
 use Rattle.bl_build.specs.HardenStage.{Hardened, IsYes}
 use Rattle.bl_job.specs.Refusals.{Refusal}
-use Rattle.bl_job.specs.Jobs.{Plan, Read, saying}
-use Rattle.bl_job.specs.StagedJobs.{Makes, Reading, Staged, all_read, contents_stage, file}
+use Rattle.bl_job.specs.Jobs.{Job, Plan, Read, saying}
+use Rattle.bl_job.specs.StagedJobs.{Makes, Reading, Staged, all_read, contents_stage, file, staged_job}
 use Rattle.bl_app.specs.declared.verify.Found.{Found}
 use Rattle.bl_job.specs.declared.status.Status.{Status}
 use Rattle.bl_job.specs.declared.status.Status.TheVariants.{Done, No}
@@ -114,6 +114,9 @@ verify_staged request = record {
   Plans = VerifyPlans;
   Means = λ contents certified plan. (verdicts : Verdicts) → AreVerdicts certified verdicts → Say certified verdicts;
 }
+
+abbrev pub verify_job : VerifyRequest → Job
+verify_job request = staged_job (verify_staged request)
 
 -- what is done, by the contents of both files
 abbrev pub VerifyDoes : List (List ℕ) → Plan → Type 0

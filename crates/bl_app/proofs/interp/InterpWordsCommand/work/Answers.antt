@@ -1,8 +1,7 @@
-use Rattle.std.proofs.Common.{Bor, List, None, arith, map, rules, subst, sym, ℕ}
+use Rattle.std.proofs.Common.{None, arith, rules}
 use Rattle.bl_build.specs.InvocationStages.{invoking}
-use Rattle.bl_build.specs.LoadStages.{AreShort, loading, parts_of}
+use Rattle.bl_build.specs.LoadStages.{loading, parts_of}
 use Rattle.bl_build.specs.StageAnswers.{invoked_in}
-use Rattle.bl_job.specs.Jobs.{AreRead}
 use Rattle.bl_job.specs.Stages.{ThenRefuses, at_second}
 use Rattle.bl_job.specs.WorkAnswers.{content_in, contents_in}
 use Rattle.bl_words.specs.Words.{interp_in}
@@ -12,18 +11,13 @@ use Rattle.bl_job.proofs.WorkLemmas.{as_many}
 use Rattle.bl_app.proofs.HardenLemmas.{short_modules}
 use Rattle.bl_app.proofs.interp.InterpWordsCommand.work.Goals as goal
 
--- the words
-abbrev texts : List (Bor (List ℕ)) → List (List ℕ)
-texts words = map (λ (word : Bor (List ℕ)). word.now) words
-
 pub first_file-start-requires : goal.first_file-start-requires
 first_file-start-requires c = let many = as_many None (interp_staged (interp_in c.args.self.now)).reads c.args.contents.items c.requires.read in omega (arith, many)
 
 pub load-requires-clause-short : goal.load-requires-clause-short
 load-requires-clause-short c =
-    let modules = contents_in c.first_file-start.result.1.items in
-    let read = subst (AreRead None (interp_staged (interp_in c.args.self.now)).reads) c.first_file-start.ensures c.requires.read in
-    subst (λ (words : List (Bor (List ℕ))). AreShort (texts words) modules) (sym c.as_slice.ensures) (short_modules (texts c.args.self.now.modules) modules read.1)
+    let read = rw c.first_file-start.ensures at c.requires.read in
+    rw c.as_slice.ensures (short_modules (interp_in c.args.self.now).modules (contents_in c.first_file-start.result.1.items) read.1)
 
 pub returns-in_err-invocation : goal.returns-in_err-invocation
 returns-in_err-invocation c =
