@@ -24,14 +24,14 @@ pub struct Forwarding<'w, 'a>(pub &'w TwinWords<'a>);
 /// Printing whether an image's program is safe where stores are forwarded, and how two runs of an exported function are observed there, side
 /// by side, from the bytes of a trace file and two start files; Refused exactly where these are refused. The files are those of `twin`.
 /// Linear in the bytes, those of the memories and in the directives, but for what the check of a program takes.
-impl Command for Forwarding<'_, '_> {
+impl<'a> Command<'a> for Forwarding<'_, 'a> {
     ghost request = { λ words. forward (twin_in words.0.now) };
 
-    fn reads(&self, alloc: Global) -> Result<Vec<Read<'_>>, NoMemory> {
+    fn reads(&self, alloc: Global) -> Result<Vec<Read<'a>>, NoMemory> {
         self.0.reads(alloc)
     }
 
-    fn work(&self, alloc: Global, contents: Vec<Content>) -> Result<Plan<'_>, WorkError> {
+    fn work(&self, alloc: Global, contents: Vec<Content>) -> Result<Plan<'a>, WorkError> {
         let twins = twins_of(alloc, self.0, contents.as_slice())?;
         Ok(tell(alloc, &twins)?)
     }

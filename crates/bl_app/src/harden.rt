@@ -29,10 +29,10 @@ use std::alloc::Global;
 /// Keeping a certificate and then the image of the modules' program with the least protects, by the counts of the count file where one is
 /// named, and printing the report; Refused exactly where the bytes are refused. Costs a maximum flow in a network that is linear in the program, also where the image is too
 /// long.
-impl Command for HardenWords<'_> {
+impl<'a> Command<'a> for HardenWords<'a> {
     ghost request = { λ words. harden (harden_in words) };
 
-    fn reads(&self, alloc: Global) -> Result<Vec<Read<'_>>, NoMemory> {
+    fn reads(&self, alloc: Global) -> Result<Vec<Read<'a>>, NoMemory> {
         let mut reads = module_reads(alloc, &[], self.modules.as_slice())?;
         if let Some(name) = self.counts {
             reads.push(Read {
@@ -43,7 +43,7 @@ impl Command for HardenWords<'_> {
         Ok(reads)
     }
 
-    fn work(&self, alloc: Global, contents: Vec<Content>) -> Result<Plan<'_>, WorkError> {
+    fn work(&self, alloc: Global, contents: Vec<Content>) -> Result<Plan<'a>, WorkError> {
         let hardened = hardened_of(alloc, self, contents)?;
         Ok(plan_of(alloc, self, hardened)?)
     }

@@ -22,14 +22,14 @@ use std::alloc::Global;
 
 /// Printing the outcome of an exported function of modules' bytes from a start file's; Refused exactly where these are
 /// refused. Linear in the bytes, those of the memories and in the steps.
-impl Command for InterpWords<'_> {
+impl<'a> Command<'a> for InterpWords<'a> {
     ghost request = { λ words. interp (interp_in words) };
 
-    fn reads(&self, alloc: Global) -> Result<Vec<Read<'_>>, NoMemory> {
+    fn reads(&self, alloc: Global) -> Result<Vec<Read<'a>>, NoMemory> {
         module_reads(alloc, &[(self.start, Start)], self.modules.as_slice())
     }
 
-    fn work(&self, alloc: Global, contents: Vec<Content>) -> Result<Plan<'_>, WorkError> {
+    fn work(&self, alloc: Global, contents: Vec<Content>) -> Result<Plan<'a>, WorkError> {
         let (start, modules) = first_file(contents);
         let linked = load(alloc, self.modules.as_slice(), modules)?;
         let invocation = prepare_invocation(alloc, linked.tree(), self.export, start.bytes())?;

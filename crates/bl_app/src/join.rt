@@ -21,10 +21,10 @@ use std::alloc::Global;
 /// Keeping the image of the program that a client and a library are joined to, by the bytes of an interface file and of their images, and printing
 /// its size; or printing which one doesn't pass on its side of the interface. Refused exactly where the bytes are refused. Linear in the
 /// bytes, but for logarithms of how many names there are.
-impl Command for JoinWords<'_> {
+impl<'a> Command<'a> for JoinWords<'a> {
     ghost request = { λ words. join (join_in words) };
 
-    fn reads(&self, alloc: Global) -> Result<Vec<Read<'_>>, NoMemory> {
+    fn reads(&self, alloc: Global) -> Result<Vec<Read<'a>>, NoMemory> {
         list_reads(
             alloc,
             &[
@@ -35,7 +35,7 @@ impl Command for JoinWords<'_> {
         )
     }
 
-    fn work(&self, alloc: Global, contents: Vec<Content>) -> Result<Plan<'_>, WorkError> {
+    fn work(&self, alloc: Global, contents: Vec<Content>) -> Result<Plan<'a>, WorkError> {
         let (iface, client, library) = three_files(contents.as_slice());
         let union = join_images(alloc, iface, client, library)?;
         Ok(plan_of(alloc, self, union)?)

@@ -26,14 +26,14 @@ use std::alloc::Global;
 /// Keeping the trace file of the directives that are chosen on an exported function of an image's program, from a start file's bytes, and
 /// printing what was met, whether the program is safe, so that other secrets give the same, and the outcome; Refused exactly where these are
 /// refused. Linear in the bytes, those of the memories and in the steps, but for what the check of a program takes.
-impl Command for PredictWords<'_> {
+impl<'a> Command<'a> for PredictWords<'a> {
     ghost request = { λ words. predict (predict_in words) };
 
-    fn reads(&self, alloc: Global) -> Result<Vec<Read<'_>>, NoMemory> {
+    fn reads(&self, alloc: Global) -> Result<Vec<Read<'a>>, NoMemory> {
         list_reads(alloc, &[(self.image, Image), (self.start, Start)])
     }
 
-    fn work(&self, alloc: Global, contents: Vec<Content>) -> Result<Plan<'_>, WorkError> {
+    fn work(&self, alloc: Global, contents: Vec<Content>) -> Result<Plan<'a>, WorkError> {
         let (image, start) = two_files(contents.as_slice());
         let prepared = prepare(alloc, image, self.export, start)?;
         Ok(tell(alloc, self, &prepared)?)

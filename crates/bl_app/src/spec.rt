@@ -26,17 +26,17 @@ use std::alloc::Global;
 /// Printing what is observed of a trace file's directives on an exported function of an image's program, from a start file's bytes;
 /// Refused exactly where these are refused. Linear in the bytes, those of the memories and in the directives, but for what the
 /// check of a program takes.
-impl Command for SpecWords<'_> {
+impl<'a> Command<'a> for SpecWords<'a> {
     ghost request = { λ words. spec (spec_in words) };
 
-    fn reads(&self, alloc: Global) -> Result<Vec<Read<'_>>, NoMemory> {
+    fn reads(&self, alloc: Global) -> Result<Vec<Read<'a>>, NoMemory> {
         list_reads(
             alloc,
             &[(self.image, Image), (self.trace, Trace), (self.start, Start)],
         )
     }
 
-    fn work(&self, alloc: Global, contents: Vec<Content>) -> Result<Plan<'_>, WorkError> {
+    fn work(&self, alloc: Global, contents: Vec<Content>) -> Result<Plan<'a>, WorkError> {
         let (image, trace, start) = three_files(contents.as_slice());
         let speculation = prepare_speculation(alloc, image, self.export, trace, start)?;
         Ok(observe(alloc, &speculation)?)

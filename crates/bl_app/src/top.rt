@@ -11,7 +11,6 @@ ghost use Rattle.bl_words.specs.Words.{request_in};
 ghost use Rattle.bl_job.specs.Worlds.{world};
 
 use crate::command::Command;
-use crate::forward::Forwarding;
 use bl_base::{NoMemory, Quantity};
 use bl_job::{Status, deliver, fetch_all, limit, refuse, say_line};
 use bl_outside::{Shelf, Sink};
@@ -62,11 +61,11 @@ fn carry_out<F: Shelf, O: Sink>(
     if count > Quantity::Modules.limit() {
         return refuse(limit(alloc, Quantity::Modules, count), out);
     }
-    do_request(alloc, request, files, out)
+    do_job(alloc, request, files, out)
 }
 
-/// Does the job of a request whose modules are few enough.
-fn do_request<F: Shelf, O: Sink>(
+/// Reads the files of a request, does its work on their contents, and delivers what is to be done.
+fn do_job<F: Shelf, O: Sink>(
     alloc: Global,
     request: &Request<'_>,
     files: &mut F,
@@ -78,43 +77,14 @@ fn do_request<F: Shelf, O: Sink>(
     ensures { Ends job_of (Some (request_in request.now))
         (world F.files F.faults O.taken O.faults files.old out.old) (world F.files F.faults O.taken O.faults files.new out.new) result }
 {
-    match request {
-        Request::Harden(words) => do_job(alloc, words, files, out),
-        Request::Lower(words) => do_job(alloc, words, files, out),
-        Request::Interp(words) => do_job(alloc, words, files, out),
-        Request::Run(words) => do_job(alloc, words, files, out),
-        Request::Spec(words) => do_job(alloc, words, files, out),
-        Request::Twin(words) => do_job(alloc, words, files, out),
-        Request::Forward(words) => do_job(alloc, &Forwarding(words), files, out),
-        Request::Verify(words) => do_job(alloc, words, files, out),
-        Request::Predict(words) => do_job(alloc, words, files, out),
-        Request::Part(words) => do_job(alloc, words, files, out),
-        Request::Join(words) => do_job(alloc, words, files, out),
-        Request::Gen(words) => do_job(alloc, words, files, out),
-    }
-}
-
-/// Reads the files of a command, does its work on their contents, and delivers what is to be done.
-fn do_job<C: Command, F: Shelf, O: Sink>(
-    alloc: Global,
-    command: &C,
-    files: &mut F,
-    out: &mut O,
-) -> Status
-    requires few { length (modules_in (C.request command.now)) ≤ limit_of quantity.Modules }
-    requires apart { AreNamedApart (modules_in (C.request command.now)) }
-    requires sized { IsSized (C.request command.now) }
-    ensures { Ends job_of (Some (C.request command.now))
-        (world F.files F.faults O.taken O.faults files.old out.old) (world F.files F.faults O.taken O.faults files.new out.new) result }
-{
-    let Ok(reads) = command.reads(alloc) else {
+    let Ok(reads) = request.reads(alloc) else {
         return Status::Memory;
     };
     let contents = match fetch_all(alloc, reads.as_slice(), files, out) {
         Ok(contents) => contents,
         Err(status) => return status,
     };
-    match command.work(alloc, contents) {
+    match request.work(alloc, contents) {
         Ok(plan) => deliver(&plan, files, out),
         Err(error) => refuse(error, out),
     }

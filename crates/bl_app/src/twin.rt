@@ -20,10 +20,10 @@ use std::alloc::Global;
 /// Printing how two runs of an exported function of an image's program are observed, side by side, from the bytes of a trace file and two
 /// start files; Refused exactly where these are refused. Linear in the bytes, those of the memories and in the directives, but for what the
 /// check of a program takes.
-impl Command for TwinWords<'_> {
+impl<'a> Command<'a> for TwinWords<'a> {
     ghost request = { λ words. twin (twin_in words) };
 
-    fn reads(&self, alloc: Global) -> Result<Vec<Read<'_>>, NoMemory> {
+    fn reads(&self, alloc: Global) -> Result<Vec<Read<'a>>, NoMemory> {
         list_reads(
             alloc,
             &[
@@ -35,7 +35,7 @@ impl Command for TwinWords<'_> {
         )
     }
 
-    fn work(&self, alloc: Global, contents: Vec<Content>) -> Result<Plan<'_>, WorkError> {
+    fn work(&self, alloc: Global, contents: Vec<Content>) -> Result<Plan<'a>, WorkError> {
         let twins = twins_of(alloc, self, contents.as_slice())?;
         Ok(tell(alloc, &twins)?)
     }

@@ -33,17 +33,17 @@ pub struct Found {
 
 /// Printing the verdicts on an image's program and a certificate; Refused exactly where their bytes are refused. Linear in the bytes,
 /// but for what the check of a program takes and the logarithm of its size; takes no memory for a variable that is declared alone.
-impl Command for VerifyWords<'_> {
+impl<'a> Command<'a> for VerifyWords<'a> {
     ghost request = { λ words. verify (verify_in words) };
 
-    fn reads(&self, alloc: Global) -> Result<Vec<Read<'_>>, NoMemory> {
+    fn reads(&self, alloc: Global) -> Result<Vec<Read<'a>>, NoMemory> {
         list_reads(
             alloc,
             &[(self.image, Image), (self.certificate, Certificate)],
         )
     }
 
-    fn work(&self, alloc: Global, contents: Vec<Content>) -> Result<Plan<'_>, WorkError> {
+    fn work(&self, alloc: Global, contents: Vec<Content>) -> Result<Plan<'a>, WorkError> {
         let (image, certificate) = two_files(contents.as_slice());
         let certified = read_certified(alloc, image, certificate)?;
         Ok(tell(alloc, &certified)?)

@@ -2,7 +2,7 @@ use Rattle.std.proofs.Common.{None, arith, rules}
 use Rattle.bl_build.specs.InvocationStages.{invoking}
 use Rattle.bl_build.specs.LoadStages.{loading, parts_of}
 use Rattle.bl_build.specs.StageAnswers.{invoked_in}
-use Rattle.bl_job.specs.Stages.{ThenRefuses, at_second}
+use Rattle.bl_job.specs.Stages.{ThenRefuses, at_first, at_second}
 use Rattle.bl_job.specs.WorkAnswers.{content_in, contents_in}
 use Rattle.bl_words.specs.Words.{interp_in}
 use Rattle.bl_app.specs.InterpJob.{interp_staged}
@@ -18,6 +18,14 @@ pub load-requires-clause-short : goal.load-requires-clause-short
 load-requires-clause-short c =
     let read = rw c.first_file-start.ensures at c.requires.read in
     rw c.as_slice.ensures (short_modules (interp_in c.args.self.now).modules (contents_in c.first_file-start.result.1.items) read.1)
+
+pub returns-in_err-linked : goal.returns-in_err-linked
+returns-in_err-linked c =
+    let request = interp_in c.args.self.now in
+    let contents = c.first_file-start.result in
+    let parts = parts_of request.modules (contents_in contents.1.items) in
+    let refused = tells_on (loading.Refuses parts) (ThenRefuses loading (invoking request.export (content_in contents.0)) parts) (λ refusal. at_first) c.in_err-linked.field-0.0 (search rules) in
+    search rules
 
 pub returns-in_err-invocation : goal.returns-in_err-invocation
 returns-in_err-invocation c =
