@@ -17,8 +17,8 @@ use Rattle.bl_twin.specs.declared.comparison.Comparison.{Comparison}
 use Rattle.bl_words.specs.Requests.{TwinRequest}
 use Rattle.bl_app.specs.TwinJob.{StartsAgree, twin_staged, twin_status}
 use Rattle.bl_build.specs.TraceStages.{Twinned, entry_of}
-use Rattle.bl_job.specs.Jobs.{Job, Plan, saying}
-use Rattle.bl_job.specs.StagedJobs.{Staged, staged_job}
+use Rattle.bl_job.specs.Jobs.{Plan, saying}
+use Rattle.bl_job.specs.StagedJobs.{Staged}
 use Rattle.bl_job.specs.declared.status.Status.TheVariants.{No}
 
 -- ---- what is observed
@@ -89,6 +89,3 @@ forward_staged request = record {
   Plans = ForwardPlans;
   Means = λ contents. ForwardMeans;
 }
-
-abbrev pub forward_job : TwinRequest → Job
-forward_job request = staged_job (forward_staged request)

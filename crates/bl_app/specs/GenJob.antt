@@ -8,9 +8,9 @@ use Rattle.bl_words.specs.Requests.{GenRequest}
 use Rattle.bl_build.specs.BuildStages.{AreCompiled, Built, compiling}
 use Rattle.bl_build.specs.HardenStage.{Hardened, IsHardened}
 use Rattle.bl_app.specs.HardenJob.{HardenedMeans}
-use Rattle.bl_job.specs.Jobs.{Job, Plan, saying}
+use Rattle.bl_job.specs.Jobs.{Plan, saying}
 use Rattle.bl_build.specs.LoadStages.{Part}
-use Rattle.bl_job.specs.StagedJobs.{Staged, all_read, staged_job}
+use Rattle.bl_job.specs.StagedJobs.{Staged, all_read}
 use Rattle.bl_job.specs.declared.status.Status.TheVariants.{Done}
 
 -- the bytes of the module that is made
@@ -50,6 +50,3 @@ gen_staged request = record {
   Plans = GenPlans request;
   Means = λ contents built plan. GenMeans request built;
 }
-
-abbrev pub gen_job : GenRequest → Job
-gen_job request = staged_job (gen_staged request)

@@ -4,13 +4,13 @@ use Rattle.bl_base.specs.Runs.{IsWithin, Outcome}
 use Rattle.bl_base.specs.declared.quantity.Quantity.TheVariants as quantity
 use Rattle.bl_reduce.specs.Outcomes.{first_store, source}
 use Rattle.bl_outcome.specs.Outcomes.{outcome_text}
-use Rattle.bl_job.specs.Jobs.{Job, Plan, Read, saying}
+use Rattle.bl_job.specs.Jobs.{Plan, Read, saying}
 use Rattle.bl_app.specs.CompileJobs.{module_read}
 use Rattle.bl_build.specs.LoadStages.{parts_of}
 use Rattle.bl_app.specs.Outcomes.{outcome_status}
 use Rattle.bl_words.specs.Requests.{InterpRequest}
 use Rattle.bl_build.specs.InvocationStages.{Invoked, preparing}
-use Rattle.bl_job.specs.StagedJobs.{Makes, Staged, contents_stage, file, others, staged_job}
+use Rattle.bl_job.specs.StagedJobs.{Makes, Staged, contents_stage, file, others}
 
 -- a start file
 abbrev pub start_read : List ℕ → Read
@@ -39,9 +39,6 @@ interp_staged request = record {
   Plans = InterpPlans request.steps;
   Means = λ contents invoked plan. Unit {0};
 }
-
-abbrev pub interp_job : InterpRequest → Job
-interp_job request = staged_job (interp_staged request)
 
 -- what is done, by the contents of all files
 abbrev pub InterpDoes : InterpRequest → List (List ℕ) → Plan → Type 0

@@ -2,10 +2,10 @@
 use Rattle.std.specs.Prelude.{◌≡◌, [], ◌∷◌}
 use Rattle.bl_build.specs.BuildStages.{AreCompiled, Built}
 use Rattle.bl_app.specs.CompileJobs.{compiling_staged}
-use Rattle.bl_job.specs.Jobs.{Job, Plan}
+use Rattle.bl_job.specs.Jobs.{Plan}
 use Rattle.bl_words.specs.Requests.{LowerRequest}
 use Rattle.bl_app.specs.Texts.{commands_text}
-use Rattle.bl_job.specs.StagedJobs.{Staged, staged_job}
+use Rattle.bl_job.specs.StagedJobs.{Staged}
 use Rattle.bl_job.specs.declared.status.Status.TheVariants.{Done}
 
 -- keeping the image of a program, and printing how many commands the program has
@@ -23,6 +23,3 @@ LowerPlans request built plan = plan ≡ lower_plan request built
 -- linked tree does
 abbrev pub lower_staged : LowerRequest → Staged Built
 lower_staged request = compiling_staged request.modules (request.image ∷ []) (LowerPlans request) (λ contents built plan. AreCompiled request.modules contents built)
-
-abbrev pub lower_job : LowerRequest → Job
-lower_job request = staged_job (lower_staged request)

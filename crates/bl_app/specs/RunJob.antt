@@ -8,10 +8,10 @@ use Rattle.bl_counts.specs.RunCounts.{counts_of}
 use Rattle.bl_outcome.specs.Outcomes.{outcome_text}
 use Rattle.bl_build.specs.EntryStages.{Entered, entering}
 use Rattle.bl_app.specs.InterpJob.{start_read}
-use Rattle.bl_job.specs.Jobs.{Job, Plan, Read}
+use Rattle.bl_job.specs.Jobs.{Plan, Read}
 use Rattle.bl_app.specs.Outcomes.{outcome_status}
 use Rattle.bl_words.specs.Requests.{RunRequest, file_named}
-use Rattle.bl_job.specs.StagedJobs.{Makes, Staged, all_read, contents_stage, file, staged_job}
+use Rattle.bl_job.specs.StagedJobs.{Makes, Staged, all_read, contents_stage, file}
 
 -- an image that is read
 abbrev pub image_read : List ℕ → Read
@@ -61,9 +61,6 @@ run_staged request = record {
   Plans = RunPlans request.steps request.counts;
   Means = λ contents entered plan. Unit {0};
 }
-
-abbrev pub run_job : RunRequest → Job
-run_job request = staged_job (run_staged request)
 
 -- what is done, by the contents of both files
 abbrev pub RunDoes : RunRequest → List (List ℕ) → Plan → Type 0

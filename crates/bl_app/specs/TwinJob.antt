@@ -11,9 +11,9 @@ use Rattle.bl_twin.specs.declared.comparison.Comparison.TheVariants as compared
 use Rattle.bl_words.specs.Requests.{TwinRequest}
 use Rattle.bl_app.specs.RunJob.{image_read}
 use Rattle.bl_app.specs.InterpJob.{start_read}
-use Rattle.bl_job.specs.Jobs.{Job, Plan, saying}
+use Rattle.bl_job.specs.Jobs.{Plan, saying}
 use Rattle.bl_app.specs.SpecJob.{seen_of, trace_read}
-use Rattle.bl_job.specs.StagedJobs.{Staged, all_read, file, staged_job}
+use Rattle.bl_job.specs.StagedJobs.{Staged, all_read, file}
 use Rattle.bl_job.specs.declared.status.Status.{Status}
 use Rattle.bl_job.specs.declared.status.Status.TheVariants.{Done, No, Stuck}
 use Rattle.bl_build.specs.TraceStages.{Twinned, entry_of, twinning}
@@ -62,6 +62,3 @@ twin_staged request = record {
   Plans = TwinPlans;
   Means = λ contents. TwinMeans;
 }
-
-abbrev pub twin_job : TwinRequest → Job
-twin_job request = staged_job (twin_staged request)

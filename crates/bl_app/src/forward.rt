@@ -1,35 +1,39 @@
 //! `forward`: from the bytes of an image, a trace file and two start files to whether the program is safe where stores are forwarded, and
 //! how the two runs are observed there, side by side.
-ghost use Rattle.std.specs.Prelude.{◌≡◌, ◌↔◌, None, IfOk, IsTrue};
-ghost use Rattle.bl_job.specs.Jobs.{AreRead};
-ghost use Rattle.bl_app.specs.ForwardJob.{ForwardPlans, IsSafe, is_verdict_safe, forward_job, safe_text};
-ghost use Rattle.bl_job.specs.WorkAnswers.{IsWork, plan_in, contents_in};
+ghost use Rattle.std.specs.Prelude.{◌≡◌, ◌↔◌, IfOk, IsTrue};
+ghost use Rattle.bl_app.specs.ForwardJob.{ForwardPlans, IsSafe, is_verdict_safe, safe_text};
+ghost use Rattle.bl_job.specs.WorkAnswers.{plan_in};
 ghost use Rattle.bl_build.specs.StageAnswers.{HasOther, IsPrepared, twinned_in};
+ghost use Rattle.bl_words.specs.Requests.{forward};
 ghost use Rattle.bl_words.specs.Words.{twin_in};
 
+use crate::command::Command;
 use crate::twin::{twin_status, twins_of};
 use bl_base::NoMemory;
 use bl_build::Twins;
 use bl_cmd::WellFormed;
 use bl_forward::{ForwardVerdict, compare_forwarding, forward_safe};
-use bl_job::{Content, Plan, WorkError};
+use bl_job::{Content, Plan, Read, WorkError};
 use bl_words::TwinWords;
 use std::alloc::Global;
+
+/// The words of `forward`, which are those of `twin`.
+#[derive(Drop)]
+pub struct Forwarding<'w, 'a>(pub &'w TwinWords<'a>);
 
 /// Printing whether an image's program is safe where stores are forwarded, and how two runs of an exported function are observed there, side
 /// by side, from the bytes of a trace file and two start files; Refused exactly where these are refused. The files are those of `twin`.
 /// Linear in the bytes, those of the memories and in the directives, but for what the check of a program takes.
-pub fn forward<'a>(
-    alloc: Global,
-    words: &TwinWords<'a>,
-    contents: &[Content],
-) -> Result<Plan<'a>, WorkError>
-    requires { AreRead None (forward_job (twin_in words.now)).reads (contents_in contents.now) }
-    ensures { IsWork (forward_job (twin_in words.now)) (contents_in contents.now) result }
-{
-    match twins_of(alloc, words, contents) {
-        Ok(twins) => Ok(tell(alloc, &twins)?),
-        Err(error) => Err(error),
+impl<'a> Command<'a> for Forwarding<'_, 'a> {
+    ghost request = { λ words. forward (twin_in words.0.now) };
+
+    fn reads(&self, alloc: Global) -> Result<Vec<Read<'a>>, NoMemory> {
+        self.0.reads(alloc)
+    }
+
+    fn work(&self, alloc: Global, contents: Vec<Content>) -> Result<Plan<'a>, WorkError> {
+        let twins = twins_of(alloc, self.0, contents.as_slice())?;
+        Ok(tell(alloc, &twins)?)
     }
 }
 

@@ -2,30 +2,46 @@
 ghost use Rattle.std.specs.Prelude.{◌≡◌, ◌≤◌, [], ◌∷◌, IfOk, codes, length};
 ghost use Rattle.bl_base.specs.Quantity.{limit_of};
 ghost use Rattle.bl_base.specs.declared.quantity.Quantity.TheVariants as quantity;
-ghost use Rattle.bl_app.specs.GenJob.{gen_job, summary_of};
+ghost use Rattle.bl_app.specs.GenJob.{gen_staged, summary_of};
+ghost use Rattle.bl_job.specs.StagedJobs.{staged_job};
 ghost use Rattle.bl_job.specs.Jobs.{saying};
 ghost use Rattle.bl_job.specs.declared.status.Status.TheVariants.{Done};
-ghost use Rattle.bl_job.specs.WorkAnswers.{IsWork, plan_in, IsStaged};
+ghost use Rattle.bl_job.specs.WorkAnswers.{plan_in, IsStaged, IsWork};
 ghost use Rattle.bl_build.specs.HardenStage.{hardening};
 ghost use Rattle.bl_build.specs.LoadStages.{parts_of};
 ghost use Rattle.bl_build.specs.StageAnswers.{hardened_in};
 ghost use Rattle.bl_graph.specs.Certificates.{Certifies};
 ghost use Rattle.bl_ct.specs.Verdicts.{Judges};
+ghost use Rattle.bl_words.specs.Requests.{gen};
 ghost use Rattle.bl_words.specs.Words.{gen_in};
 
+use crate::command::Command;
 use bl_base::NoMemory;
 use bl_build::{Hardened, compile_hardened};
 use bl_gen::make;
-use bl_job::{Content, Plan, Status, WorkError};
+use bl_job::{Content, Plan, Read, Status, WorkError};
 use bl_report::summary;
 use bl_words::GenWords;
 use std::alloc::Global;
 
 /// Printing the summary of a module that is made of a number and a size, compiled and hardened. Costs a maximum flow in a network that
 /// is linear in the program.
-pub fn generate<'a>(alloc: Global, words: &GenWords) -> Result<Plan<'a>, WorkError>
+impl<'a> Command<'a> for GenWords {
+    ghost request = { λ words. gen (gen_in words) };
+
+    fn reads(&self, alloc: Global) -> Result<Vec<Read<'a>>, NoMemory> {
+        Ok(Vec::new(alloc))
+    }
+
+    fn work(&self, alloc: Global, _contents: Vec<Content>) -> Result<Plan<'a>, WorkError> {
+        generate(alloc, self)
+    }
+}
+
+/// The same, which reads no file.
+fn generate<'a>(alloc: Global, words: &GenWords) -> Result<Plan<'a>, WorkError>
     requires { (1 ≤ words.now.size) × (words.now.size ≤ limit_of quantity.Functions) }
-    ensures { IsWork (gen_job (gen_in words.now)) [] result }
+    ensures { IsWork (staged_job (gen_staged (gen_in words.now))) [] result }
 {
     let bytes = make(alloc, words.seed, words.size)?;
     let length = bytes.len();

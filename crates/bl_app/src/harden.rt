@@ -10,10 +10,12 @@ ghost use Rattle.bl_app.specs.HardenJob.{harden_job, harden_plan, sources_in};
 ghost use Rattle.bl_build.specs.WeightStages.{hardening_by};
 ghost use Rattle.bl_job.specs.Jobs.{AreRead};
 ghost use Rattle.bl_text.specs.Names.{AreNamedApart};
+ghost use Rattle.bl_words.specs.Requests.{harden};
 ghost use Rattle.bl_words.specs.Words.{harden_in};
-ghost use Rattle.bl_job.specs.WorkAnswers.{IsStaged, IsWork, keep_in, plan_in, read_in, contents_in};
+ghost use Rattle.bl_job.specs.WorkAnswers.{IsStaged, keep_in, plan_in, contents_in};
 ghost use Rattle.bl_build.specs.StageAnswers.{hardened_in};
 
+use crate::command::Command;
 use crate::module::module_reads;
 use bl_base::{NoMemory, Quantity, Text};
 use bl_build::{Hardened, compile_hardened, compile_hardened_by};
@@ -27,19 +29,23 @@ use std::alloc::Global;
 /// Keeping a certificate and then the image of the modules' program with the least protects, by the counts of the count file where one is
 /// named, and printing the report; Refused exactly where the bytes are refused. Costs a maximum flow in a network that is linear in the program, also where the image is too
 /// long.
-pub fn harden<'a>(
-    alloc: Global,
-    words: &HardenWords<'a>,
-    contents: Vec<Content>,
-) -> Result<Plan<'a>, WorkError>
-    requires few { length words.now.modules ≤ limit_of quantity.Modules }
-    requires apart { AreNamedApart (harden_in words.now).modules }
-    requires read { AreRead None (harden_job (harden_in words.now)).reads (contents_in contents.items) }
-    ensures { IsWork (harden_job (harden_in words.now)) (contents_in contents.items) result }
-{
-    match hardened_of(alloc, words, contents) {
-        Ok(hardened) => Ok(plan_of(alloc, words, hardened)?),
-        Err(error) => Err(error),
+impl<'a> Command<'a> for HardenWords<'a> {
+    ghost request = { λ words. harden (harden_in words) };
+
+    fn reads(&self, alloc: Global) -> Result<Vec<Read<'a>>, NoMemory> {
+        let mut reads = module_reads(alloc, &[], self.modules.as_slice())?;
+        if let Some(name) = self.counts {
+            reads.push(Read {
+                name,
+                quantity: Quantity::Counts,
+            })?;
+        }
+        Ok(reads)
+    }
+
+    fn work(&self, alloc: Global, contents: Vec<Content>) -> Result<Plan<'a>, WorkError> {
+        let hardened = hardened_of(alloc, self, contents)?;
+        Ok(plan_of(alloc, self, hardened)?)
     }
 }
 
@@ -62,20 +68,6 @@ fn hardened_of<'a>(
             compile_hardened_by(alloc, modules, contents, counts.bytes())
         }
     }
-}
-
-/// The files that `harden` reads: the modules, and then the count file where one is named.
-pub fn harden_reads<'a>(alloc: Global, words: &HardenWords<'a>) -> Result<Vec<Read<'a>>, NoMemory>
-    ensures { IfOk result (λ reads. map read_in reads.items ≡ (harden_job (harden_in words.now)).reads) }
-{
-    let mut reads = module_reads(alloc, &[], words.modules.as_slice())?;
-    if let Some(name) = words.counts {
-        reads.push(Read {
-            name,
-            quantity: Quantity::Counts,
-        })?;
-    }
-    Ok(reads)
 }
 
 /// The plan of a program with its protects.

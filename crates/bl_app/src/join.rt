@@ -1,35 +1,44 @@
 //! `join`: from the bytes of an interface file and of a client's and a library's image to the image of the program that they are joined to.
-ghost use Rattle.std.specs.Prelude.{◌≡◌, None, IfOk, string_bytes};
-ghost use Rattle.bl_app.specs.JoinJob.{fails_text, join_job, join_plan, joined_text, role_text};
+ghost use Rattle.std.specs.Prelude.{◌≡◌, IfOk, string_bytes};
+ghost use Rattle.bl_app.specs.JoinJob.{fails_text, join_plan, joined_text, role_text};
 ghost use Rattle.bl_build.specs.JoinStages.{whole};
 ghost use Rattle.bl_build.specs.StageAnswers.{built_in, union_in};
-ghost use Rattle.bl_job.specs.Jobs.{AreRead, saying};
-ghost use Rattle.bl_job.specs.WorkAnswers.{IsWork, contents_in, plan_in};
+ghost use Rattle.bl_job.specs.Jobs.{saying};
+ghost use Rattle.bl_job.specs.WorkAnswers.{plan_in};
 ghost use Rattle.bl_job.specs.declared.status.Status.TheVariants.{No};
+ghost use Rattle.bl_words.specs.Requests.{join};
 ghost use Rattle.bl_words.specs.Words.{join_in};
 
+use crate::command::Command;
 use bl_base::{NoMemory, Pos, Role};
+use bl_base::Quantity::{Image, Interface};
 use bl_build::{Built, Union, join_images};
 use bl_cmd::WellFormed;
-use bl_job::{Content, Plan, Status, WorkError, one_kept, three_files};
+use bl_job::{Content, Plan, Read, Status, WorkError, list_reads, one_kept, three_files};
 use bl_words::JoinWords;
 use std::alloc::Global;
 
 /// Keeping the image of the program that a client and a library are joined to, by the bytes of an interface file and of their images, and printing
 /// its size; or printing which one doesn't pass on its side of the interface. Refused exactly where the bytes are refused. Linear in the
 /// bytes, but for logarithms of how many names there are.
-pub fn join<'a>(
-    alloc: Global,
-    words: &JoinWords<'a>,
-    contents: &[Content],
-) -> Result<Plan<'a>, WorkError>
-    requires { AreRead None (join_job (join_in words.now)).reads (contents_in contents.now) }
-    ensures { IsWork (join_job (join_in words.now)) (contents_in contents.now) result }
-{
-    let (iface, client, library) = three_files(contents);
-    match join_images(alloc, iface, client, library) {
-        Ok(union) => Ok(plan_of(alloc, words, union)?),
-        Err(error) => Err(error),
+impl<'a> Command<'a> for JoinWords<'a> {
+    ghost request = { λ words. join (join_in words) };
+
+    fn reads(&self, alloc: Global) -> Result<Vec<Read<'a>>, NoMemory> {
+        list_reads(
+            alloc,
+            &[
+                (self.iface, Interface),
+                (self.client, Image),
+                (self.library, Image),
+            ],
+        )
+    }
+
+    fn work(&self, alloc: Global, contents: Vec<Content>) -> Result<Plan<'a>, WorkError> {
+        let (iface, client, library) = three_files(contents.as_slice());
+        let union = join_images(alloc, iface, client, library)?;
+        Ok(plan_of(alloc, self, union)?)
     }
 }
 

@@ -7,32 +7,33 @@ ghost use Rattle.bl_build.specs.StageAnswers.{parted_in};
 ghost use Rattle.bl_cmd.specs.Sites.{is_protected, weight_of};
 ghost use Rattle.bl_job.specs.Jobs.{AreRead};
 ghost use Rattle.bl_job.specs.StagedJobs.{contents_stage};
-ghost use Rattle.bl_job.specs.WorkAnswers.{IsStaged, IsWork, contents_in, plan_in};
+ghost use Rattle.bl_job.specs.WorkAnswers.{IsStaged, contents_in, plan_in};
 ghost use Rattle.bl_text.specs.Names.{AreNamedApart};
 ghost use Rattle.bl_words.specs.Words.{part_in};
+ghost use Rattle.bl_words.specs.Requests.{part};
 
+use crate::command::Command;
+use crate::module::module_reads;
 use bl_base::NoMemory;
+use bl_base::Quantity::Interface;
 use bl_build::{Parted, compile_part};
-use bl_job::{Content, Plan, Status, WorkError, first_file, one_kept};
+use bl_job::{Content, Plan, Read, Status, WorkError, first_file, one_kept};
 use bl_report::protects_report;
 use bl_words::PartWords;
 use std::alloc::Global;
 
 /// Keeping the image of the modules' program with the least protects on one side of an interface file's interface, and printing its counts and
 /// its protects; Refused exactly where the bytes are refused. Costs a maximum flow in a network that is linear in the program.
-pub fn part<'a>(
-    alloc: Global,
-    words: &PartWords<'a>,
-    contents: Vec<Content>,
-) -> Result<Plan<'a>, WorkError>
-    requires few { length words.now.modules ≤ limit_of quantity.Modules }
-    requires apart { AreNamedApart (part_in words.now).modules }
-    requires read { AreRead None (part_job (part_in words.now)).reads (contents_in contents.items) }
-    ensures { IsWork (part_job (part_in words.now)) (contents_in contents.items) result }
-{
-    match parted_of(alloc, words, contents) {
-        Ok(parted) => Ok(plan_of(alloc, words, parted)?),
-        Err(error) => Err(error),
+impl<'a> Command<'a> for PartWords<'a> {
+    ghost request = { λ words. part (part_in words) };
+
+    fn reads(&self, alloc: Global) -> Result<Vec<Read<'a>>, NoMemory> {
+        module_reads(alloc, &[(self.iface, Interface)], self.modules.as_slice())
+    }
+
+    fn work(&self, alloc: Global, contents: Vec<Content>) -> Result<Plan<'a>, WorkError> {
+        let parted = parted_of(alloc, self, contents)?;
+        Ok(plan_of(alloc, self, parted)?)
     }
 }
 

@@ -1,20 +1,22 @@
 //! `predict`: from an image's bytes and a start file's to the trace file of the directives that a predictor chooses, what it met, and the
 //! outcome.
-ghost use Rattle.std.specs.Prelude.{◌≡◌, ◌↔◌, ◌++◌, None, IfOk, IsTrue, OnOk};
+ghost use Rattle.std.specs.Prelude.{◌≡◌, ◌↔◌, ◌++◌, IfOk, IsTrue, OnOk};
 ghost use Rattle.std.specs.Fmt.{decimal};
 ghost use Rattle.bl_predict.specs.Drives.{IsDriven};
 ghost use Rattle.bl_app.specs.ForwardJob.{IsSafe};
-ghost use Rattle.bl_app.specs.PredictJob.{PredictPlans, alike_text, driven_of, is_verdict_safe, met_by, predict_job};
-ghost use Rattle.bl_job.specs.Jobs.{AreRead};
+ghost use Rattle.bl_app.specs.PredictJob.{PredictPlans, alike_text, driven_of, is_verdict_safe, met_by};
+ghost use Rattle.bl_words.specs.Requests.{predict};
 ghost use Rattle.bl_words.specs.Words.{predict_in};
-ghost use Rattle.bl_job.specs.WorkAnswers.{IsWork, plan_in, contents_in};
+ghost use Rattle.bl_job.specs.WorkAnswers.{plan_in};
 ghost use Rattle.bl_build.specs.StageAnswers.{IsPrepared, prepared_in};
 
+use crate::command::Command;
 use crate::outcome::{outcome_status, plain_text};
 use bl_base::NoMemory;
+use bl_base::Quantity::{Image, Start};
 use bl_build::{Prepared, prepare};
 use bl_cmd::WellFormed;
-use bl_job::{Content, Plan, WorkError, one_kept, two_files};
+use bl_job::{Content, Plan, Read, WorkError, list_reads, one_kept, two_files};
 use bl_predict::{Driven, drive};
 use bl_sct::{Verdict, assess};
 use bl_trace::trace_text;
@@ -24,18 +26,17 @@ use std::alloc::Global;
 /// Keeping the trace file of the directives that are chosen on an exported function of an image's program, from a start file's bytes, and
 /// printing what was met, whether the program is safe, so that other secrets give the same, and the outcome; Refused exactly where these are
 /// refused. Linear in the bytes, those of the memories and in the steps, but for what the check of a program takes.
-pub fn predict<'a>(
-    alloc: Global,
-    words: &PredictWords<'a>,
-    contents: &[Content],
-) -> Result<Plan<'a>, WorkError>
-    requires { AreRead None (predict_job (predict_in words.now)).reads (contents_in contents.now) }
-    ensures { IsWork (predict_job (predict_in words.now)) (contents_in contents.now) result }
-{
-    let (image, start) = two_files(contents);
-    match prepare(alloc, image, words.export, start) {
-        Ok(prepared) => Ok(tell(alloc, words, &prepared)?),
-        Err(error) => Err(error),
+impl<'a> Command<'a> for PredictWords<'a> {
+    ghost request = { λ words. predict (predict_in words) };
+
+    fn reads(&self, alloc: Global) -> Result<Vec<Read<'a>>, NoMemory> {
+        list_reads(alloc, &[(self.image, Image), (self.start, Start)])
+    }
+
+    fn work(&self, alloc: Global, contents: Vec<Content>) -> Result<Plan<'a>, WorkError> {
+        let (image, start) = two_files(contents.as_slice());
+        let prepared = prepare(alloc, image, self.export, start)?;
+        Ok(tell(alloc, self, &prepared)?)
     }
 }
 

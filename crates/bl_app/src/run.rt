@@ -1,36 +1,35 @@
 //! `run`: from an image's bytes and a start file's to the text of the outcome of a plain run.
 ghost use Rattle.std.specs.Prelude.{None, Some, IfOk};
-ghost use Rattle.bl_app.specs.RunJob.{RunPlans, run_job};
-ghost use Rattle.bl_job.specs.Jobs.{AreRead};
-ghost use Rattle.bl_words.specs.Requests.{AreInRange};
+ghost use Rattle.bl_app.specs.RunJob.{RunPlans};
+ghost use Rattle.bl_words.specs.Requests.{AreInRange, run};
 ghost use Rattle.bl_words.specs.Words.{run_in, text_in};
-ghost use Rattle.bl_job.specs.WorkAnswers.{IsWork, plan_in, contents_in};
+ghost use Rattle.bl_job.specs.WorkAnswers.{plan_in};
 ghost use Rattle.bl_build.specs.StageAnswers.{IsPrepared, prepared_in};
 
+use crate::command::Command;
 use crate::outcome::{outcome_status, plain_text};
 use bl_base::NoMemory;
+use bl_base::Quantity::{Image, Start};
 use bl_build::{Prepared, prepare};
 use bl_counts::{count_run, counts_text};
-use bl_job::{Content, Plan, WorkError, one_kept, two_files};
+use bl_job::{Content, Plan, Read, WorkError, list_reads, one_kept, two_files};
 use bl_seq::run;
 use bl_words::RunWords;
 use std::alloc::Global;
 
 /// Keeping the count file, if one is asked for, and printing the outcome of an exported function of an image's program from a start file's
 /// bytes; Refused exactly where these are refused. Linear in the bytes, those of the memories and in the steps, but for what the check of a program takes.
-pub fn execute<'a>(
-    alloc: Global,
-    words: &RunWords<'a>,
-    contents: &[Content],
-) -> Result<Plan<'a>, WorkError>
-    requires sized { AreInRange words.now.steps }
-    requires read { AreRead None (run_job (run_in words.now)).reads (contents_in contents.now) }
-    ensures { IsWork (run_job (run_in words.now)) (contents_in contents.now) result }
-{
-    let (image, start) = two_files(contents);
-    match prepare(alloc, image, words.export, start) {
-        Ok(prepared) => Ok(tell(alloc, words, &prepared)?),
-        Err(error) => Err(error),
+impl<'a> Command<'a> for RunWords<'a> {
+    ghost request = { λ words. run (run_in words) };
+
+    fn reads(&self, alloc: Global) -> Result<Vec<Read<'a>>, NoMemory> {
+        list_reads(alloc, &[(self.image, Image), (self.start, Start)])
+    }
+
+    fn work(&self, alloc: Global, contents: Vec<Content>) -> Result<Plan<'a>, WorkError> {
+        let (image, start) = two_files(contents.as_slice());
+        let prepared = prepare(alloc, image, self.export, start)?;
+        Ok(tell(alloc, self, &prepared)?)
     }
 }
 

@@ -1,21 +1,23 @@
 //! `spec`: from the bytes of an image, a trace file and a start file to the lines of what is observed of the buffer machine.
-ghost use Rattle.std.specs.Prelude.{◌≡◌, ◌++◌, None, IfOk, codes};
+ghost use Rattle.std.specs.Prelude.{◌≡◌, ◌++◌, IfOk, codes};
 ghost use Rattle.std.specs.Fmt.{decimal};
 ghost use Rattle.std.specs.List.{flat_map};
 ghost use Rattle.bl_outcome.specs.Lines.{line};
 ghost use Rattle.bl_rob.specs.CallResults.{outcome_in, shown};
 ghost use Rattle.bl_rob.specs.Machines.{opening};
 ghost use Rattle.bl_trace.specs.Observations.{observation_text};
-ghost use Rattle.bl_job.specs.Jobs.{AreRead};
-ghost use Rattle.bl_app.specs.SpecJob.{SpecPlans, last_text, spec_job, spec_status};
+ghost use Rattle.bl_app.specs.SpecJob.{SpecPlans, last_text, spec_status};
+ghost use Rattle.bl_words.specs.Requests.{spec};
 ghost use Rattle.bl_words.specs.Words.{spec_in};
-ghost use Rattle.bl_job.specs.WorkAnswers.{contents_in, IsWork, plan_in};
+ghost use Rattle.bl_job.specs.WorkAnswers.{plan_in};
 ghost use Rattle.bl_build.specs.StageAnswers.{IsPrepared, prepared_in, speculated_in};
 
+use crate::command::Command;
 use crate::outcome::plain_text;
 use bl_base::NoMemory;
+use bl_base::Quantity::{Image, Start, Trace};
 use bl_build::{Prepared, Speculation, prepare_speculation};
-use bl_job::{Content, Plan, Status, WorkError, three_files};
+use bl_job::{Content, Plan, Read, Status, WorkError, list_reads, three_files};
 use bl_rob::{Observation, Observed, Rob};
 use bl_trace::print_observation;
 use bl_words::SpecWords;
@@ -24,18 +26,20 @@ use std::alloc::Global;
 /// Printing what is observed of a trace file's directives on an exported function of an image's program, from a start file's bytes;
 /// Refused exactly where these are refused. Linear in the bytes, those of the memories and in the directives, but for what the
 /// check of a program takes.
-pub fn speculate<'a>(
-    alloc: Global,
-    words: &SpecWords<'a>,
-    contents: &[Content],
-) -> Result<Plan<'a>, WorkError>
-    requires { AreRead None (spec_job (spec_in words.now)).reads (contents_in contents.now) }
-    ensures { IsWork (spec_job (spec_in words.now)) (contents_in contents.now) result }
-{
-    let (image, trace, start) = three_files(contents);
-    match prepare_speculation(alloc, image, words.export, trace, start) {
-        Ok(speculation) => Ok(observe(alloc, &speculation)?),
-        Err(error) => Err(error),
+impl<'a> Command<'a> for SpecWords<'a> {
+    ghost request = { λ words. spec (spec_in words) };
+
+    fn reads(&self, alloc: Global) -> Result<Vec<Read<'a>>, NoMemory> {
+        list_reads(
+            alloc,
+            &[(self.image, Image), (self.trace, Trace), (self.start, Start)],
+        )
+    }
+
+    fn work(&self, alloc: Global, contents: Vec<Content>) -> Result<Plan<'a>, WorkError> {
+        let (image, trace, start) = three_files(contents.as_slice());
+        let speculation = prepare_speculation(alloc, image, self.export, trace, start)?;
+        Ok(observe(alloc, &speculation)?)
     }
 }
 

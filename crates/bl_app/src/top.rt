@@ -10,7 +10,7 @@ ghost use Rattle.bl_words.specs.Requests.{modules_in, request_of};
 ghost use Rattle.bl_words.specs.Words.{request_in};
 ghost use Rattle.bl_job.specs.Worlds.{world};
 
-use crate::command::{reads_of, work};
+use crate::command::Command;
 use bl_base::{NoMemory, Quantity};
 use bl_job::{Status, deliver, fetch_all, limit, refuse, say_line};
 use bl_outside::{Shelf, Sink};
@@ -77,14 +77,14 @@ fn do_job<F: Shelf, O: Sink>(
     ensures { Ends job_of (Some (request_in request.now))
         (world F.files F.faults O.taken O.faults files.old out.old) (world F.files F.faults O.taken O.faults files.new out.new) result }
 {
-    let Ok(reads) = reads_of(alloc, request) else {
+    let Ok(reads) = request.reads(alloc) else {
         return Status::Memory;
     };
     let contents = match fetch_all(alloc, reads.as_slice(), files, out) {
         Ok(contents) => contents,
         Err(status) => return status,
     };
-    match work(alloc, request, contents) {
+    match request.work(alloc, contents) {
         Ok(plan) => deliver(&plan, files, out),
         Err(error) => refuse(error, out),
     }

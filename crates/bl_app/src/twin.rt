@@ -2,14 +2,17 @@
 ghost use Rattle.std.specs.Prelude.{◌≡◌, None, IfOk};
 ghost use Rattle.bl_job.specs.Jobs.{AreRead};
 ghost use Rattle.bl_job.specs.StagedJobs.{contents_stage};
-ghost use Rattle.bl_app.specs.TwinJob.{TwinPlans, twin_job, twin_staged, twin_status};
-ghost use Rattle.bl_job.specs.WorkAnswers.{IsStaged, IsWork, plan_in, contents_in};
+ghost use Rattle.bl_app.specs.TwinJob.{TwinPlans, twin_staged, twin_status};
+ghost use Rattle.bl_job.specs.WorkAnswers.{IsStaged, plan_in, contents_in};
 ghost use Rattle.bl_build.specs.StageAnswers.{HasOther, IsPrepared, twinned_in};
+ghost use Rattle.bl_words.specs.Requests.{twin};
 ghost use Rattle.bl_words.specs.Words.{twin_in};
 
+use crate::command::Command;
 use bl_base::NoMemory;
+use bl_base::Quantity::{Image, Start, Trace};
 use bl_build::{Twins, prepare_twins};
-use bl_job::{Content, Plan, Status, WorkError, four_files};
+use bl_job::{Content, Plan, Read, Status, WorkError, four_files, list_reads};
 use bl_twin::{Comparison, compare_runs};
 use bl_words::TwinWords;
 use std::alloc::Global;
@@ -17,17 +20,24 @@ use std::alloc::Global;
 /// Printing how two runs of an exported function of an image's program are observed, side by side, from the bytes of a trace file and two
 /// start files; Refused exactly where these are refused. Linear in the bytes, those of the memories and in the directives, but for what the
 /// check of a program takes.
-pub fn twin<'a>(
-    alloc: Global,
-    words: &TwinWords<'a>,
-    contents: &[Content],
-) -> Result<Plan<'a>, WorkError>
-    requires { AreRead None (twin_job (twin_in words.now)).reads (contents_in contents.now) }
-    ensures { IsWork (twin_job (twin_in words.now)) (contents_in contents.now) result }
-{
-    match twins_of(alloc, words, contents) {
-        Ok(twins) => Ok(tell(alloc, &twins)?),
-        Err(error) => Err(error),
+impl<'a> Command<'a> for TwinWords<'a> {
+    ghost request = { λ words. twin (twin_in words) };
+
+    fn reads(&self, alloc: Global) -> Result<Vec<Read<'a>>, NoMemory> {
+        list_reads(
+            alloc,
+            &[
+                (self.image, Image),
+                (self.trace, Trace),
+                (self.start, Start),
+                (self.other_start, Start),
+            ],
+        )
+    }
+
+    fn work(&self, alloc: Global, contents: Vec<Content>) -> Result<Plan<'a>, WorkError> {
+        let twins = twins_of(alloc, self, contents.as_slice())?;
+        Ok(tell(alloc, &twins)?)
     }
 }
 
@@ -37,7 +47,7 @@ pub fn twins_of(
     words: &TwinWords<'_>,
     contents: &[Content],
 ) -> Result<Twins, WorkError>
-    requires { AreRead None (twin_job (twin_in words.now)).reads (contents_in contents.now) }
+    requires { AreRead None (twin_staged (twin_in words.now)).reads (contents_in contents.now) }
     ensures staged { IsStaged (contents_stage (twin_staged (twin_in words.now)).reading) twinned_in (contents_in contents.now) result }
     ensures fits { IfOk result (λ twins. IsPrepared twins.speculation.prepared) }
     ensures other { IfOk result HasOther }

@@ -1,17 +1,19 @@
 //! `verify`: from the bytes of an image and of a certificate to the verdicts on them.
-ghost use Rattle.std.specs.Prelude.{◌≡◌, None, IfOk};
-ghost use Rattle.bl_job.specs.Jobs.{AreRead};
-ghost use Rattle.bl_app.specs.VerifyJob.{Shows, VerifyPlans, found_plan, found_status, verify_job};
+ghost use Rattle.std.specs.Prelude.{◌≡◌, IfOk};
+ghost use Rattle.bl_app.specs.VerifyJob.{Shows, VerifyPlans, found_plan, found_status};
 ghost use Rattle.bl_build.specs.StageAnswers.{certified_in};
-ghost use Rattle.bl_job.specs.WorkAnswers.{contents_in, IsWork, plan_in};
+ghost use Rattle.bl_job.specs.WorkAnswers.{plan_in};
 ghost use Rattle.bl_graph.specs.Graphs.{IsGraph};
+ghost use Rattle.bl_words.specs.Requests.{verify};
 ghost use Rattle.bl_words.specs.Words.{verify_in};
 
+use crate::command::Command;
 use bl_base::{NoMemory, Pos};
+use bl_base::Quantity::{Certificate, Image};
 use bl_build::{Certified, read_certified};
 use bl_ct::secret_chain_of;
 use bl_graph::{Graph, SecretChain, graph};
-use bl_job::{Content, Plan, Status, WorkError, two_files};
+use bl_job::{Content, Plan, Read, Status, WorkError, list_reads, two_files};
 use bl_report::verdicts_text_of;
 use bl_sct::own_leak_of;
 use bl_witness::{CertVerdict, check_certificate_of};
@@ -31,18 +33,20 @@ pub struct Found {
 
 /// Printing the verdicts on an image's program and a certificate; Refused exactly where their bytes are refused. Linear in the bytes,
 /// but for what the check of a program takes and the logarithm of its size; takes no memory for a variable that is declared alone.
-pub fn verify<'a>(
-    alloc: Global,
-    words: &VerifyWords<'a>,
-    contents: &[Content],
-) -> Result<Plan<'a>, WorkError>
-    requires { AreRead None (verify_job (verify_in words.now)).reads (contents_in contents.now) }
-    ensures { IsWork (verify_job (verify_in words.now)) (contents_in contents.now) result }
-{
-    let (image, certificate) = two_files(contents);
-    match read_certified(alloc, image, certificate) {
-        Ok(certified) => Ok(tell(alloc, &certified)?),
-        Err(error) => Err(error),
+impl<'a> Command<'a> for VerifyWords<'a> {
+    ghost request = { λ words. verify (verify_in words) };
+
+    fn reads(&self, alloc: Global) -> Result<Vec<Read<'a>>, NoMemory> {
+        list_reads(
+            alloc,
+            &[(self.image, Image), (self.certificate, Certificate)],
+        )
+    }
+
+    fn work(&self, alloc: Global, contents: Vec<Content>) -> Result<Plan<'a>, WorkError> {
+        let (image, certificate) = two_files(contents.as_slice());
+        let certified = read_certified(alloc, image, certificate)?;
+        Ok(tell(alloc, &certified)?)
     }
 }
 

@@ -7,7 +7,6 @@ pub mod KeptFiles
 pub mod CallEffectLemmas
 pub mod PiecewiseReads
 pub mod StageLemmas
-pub mod StageWork
 pub mod StagedJobLemmas
 pub mod SinkTexts
 pub mod EndKinds

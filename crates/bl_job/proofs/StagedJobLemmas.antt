@@ -1,18 +1,15 @@
 -- Commands over a stage are lawful and total where their stages are; what is said where one was done.
-use Rattle.std.proofs.Common.{◌≡◌, ℕ, List, [], ◌∷◌, Result, Ok, Err, subst, sym}
+use Rattle.std.proofs.Common.{◌≡◌, ℕ, List, [], ◌∷◌, subst, sym}
 use Rattle.std.specs.List.{AllByRecursion}
 use Rattle.std.proofs.lemmas.List.Elements.{All-tail}
 use Rattle.bl_base.specs.Fits.{AreBytes}
 use Rattle.bl_job.specs.Refusals.{Refusal}
 use Rattle.bl_job.specs.Stages.{IsLawfulStage, Stage}
-use Rattle.bl_job.specs.declared.refusal.WorkError.{WorkError}
-use Rattle.bl_job.specs.WorkAnswers.{Tells, IsDoneBehind, IsWork, plan_in}
 use Rattle.bl_job.specs.Jobs.{AreThere, IsLawful, IsSmall, IsTotal, KeepsNamed, Plan, Read}
 use Rattle.bl_job.specs.StagedJobs.{DeedMeans, Stand, WasDone, ReadPasses, ReadRefuses, Reading, Staged, all_read, others, contents_stage, file, staged_job}
 use Rattle.bl_job.specs.Status.{kind_of, of_deed}
 use Rattle.bl_job.specs.Worlds.{World}
 use Rattle.bl_job.proofs.KeptFiles.{all_stand}
-use Rattle.bl_job.specs.declared.job.Plan.{Plan as PlanMade}
 use Rattle.bl_job.specs.declared.status.Status.{Status}
 
 -- ---- stages on contents
@@ -126,9 +123,3 @@ module _ {B Given : Type 0} (staged : Staged B) (laws : IsStagedCommand Given st
     means = made staged.reading (λ contents b. (plan : Plan) → staged.Plans b plan → staged.Means contents b plan) laws.means d.contents d.does.made d.does.passes d.plan d.does.plans;
     stand = subst (λ files. Stand files d.plan.keeps) (sym d.kept) (all_stand old.files d.plan.keeps);
   }
-
--- what is done behind the stage is the work of the job
-pub staged_work : {B : Type 0} (staged : Staged B) (contents these : List (List ℕ)) → contents ≡ these → (result : Result PlanMade WorkError)
-    → IsDoneBehind (contents_stage staged.reading) staged.Plans these result → IsWork (staged_job staged) contents result
-staged_work staged contents these same (Ok plan) done = subst (λ l. (staged_job staged).Does l (plan_in plan)) (sym same) (record { made = done.0; passes = done.1; plans = done.2 })
-staged_work staged contents these same (Err e) refused = subst (λ l. Tells (ReadRefuses staged.reading l) e) (sym same) refused

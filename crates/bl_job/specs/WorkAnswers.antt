@@ -101,8 +101,3 @@ IsStaged stage value a (Err e) = Tells (stage.Refuses a) e
 abbrev pub IsWork : Job → List (List ℕ) → Result PlanMade WorkError → Type 0
 IsWork job contents (Ok plan) = job.Does contents (plan_in plan)
 IsWork job contents (Err e) = Tells (job.Against contents) e
-
--- what is done with a value that stages take: a plan for what they pass on, or why they refuse it
-abbrev pub IsDoneBehind : {A B : Type 0} → Stage A B → (B → Plan → Type 0) → A → Result PlanMade WorkError → Type 0
-IsDoneBehind {B = B} stage Plans a (Ok plan) = (b : B) × stage.Passes a b × Plans b (plan_in plan)
-IsDoneBehind stage Plans a (Err e) = Tells (stage.Refuses a) e
