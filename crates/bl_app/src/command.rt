@@ -6,8 +6,7 @@ ghost use Rattle.bl_app.specs.Commands.{IsSized, work_of};
 ghost use Rattle.bl_job.specs.Jobs.{AreRead};
 ghost use Rattle.bl_job.specs.WorkAnswers.{IsWork, contents_in, read_in};
 ghost use Rattle.bl_text.specs.Names.{AreNamedApart};
-ghost use Rattle.bl_words.specs.Requests.{Request as Requested, modules_in};
-ghost use Rattle.bl_words.specs.Words.{request_in};
+ghost use Rattle.bl_words.specs.{Requests.Request as Requested, Requests.modules_in, Words.request_in};
 
 use crate::forward::Forwarding;
 use bl_base::NoMemory;

@@ -4,8 +4,7 @@ ghost use Rattle.std.specs.Prelude.{◌≡◌, ◌↔◌, IfOk, IsTrue};
 ghost use Rattle.bl_app.specs.ForwardJob.{ForwardPlans, IsSafe, is_verdict_safe, safe_text};
 ghost use Rattle.bl_job.specs.WorkAnswers.{plan_in};
 ghost use Rattle.bl_build.specs.StageAnswers.{HasOther, IsPrepared, twinned_in};
-ghost use Rattle.bl_words.specs.Requests.{forward};
-ghost use Rattle.bl_words.specs.Words.{twin_in};
+ghost use Rattle.bl_words.specs.{Requests.forward, Words.twin_in};
 
 use crate::command::Command;
 use crate::twin::{twin_status, twins_of};

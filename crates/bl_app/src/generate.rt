@@ -3,17 +3,12 @@ ghost use Rattle.std.specs.Prelude.{◌≡◌, ◌≤◌, [], ◌∷◌, IfOk, c
 ghost use Rattle.bl_base.specs.Quantity.{limit_of};
 ghost use Rattle.bl_base.specs.declared.quantity.Quantity.TheVariants as quantity;
 ghost use Rattle.bl_app.specs.GenJob.{gen_staged, summary_of};
-ghost use Rattle.bl_job.specs.StagedJobs.{staged_job};
-ghost use Rattle.bl_job.specs.Jobs.{saying};
-ghost use Rattle.bl_job.specs.declared.status.Status.TheVariants.{Done};
+ghost use Rattle.bl_job.specs.{StagedJobs.staged_job, Jobs.saying, declared.status.Status.TheVariants.Done};
 ghost use Rattle.bl_job.specs.WorkAnswers.{plan_in, IsStaged, IsWork};
-ghost use Rattle.bl_build.specs.HardenStage.{hardening};
-ghost use Rattle.bl_build.specs.LoadStages.{parts_of};
-ghost use Rattle.bl_build.specs.StageAnswers.{hardened_in};
+ghost use Rattle.bl_build.specs.{HardenStage.hardening, LoadStages.parts_of, StageAnswers.hardened_in};
 ghost use Rattle.bl_graph.specs.Certificates.{Certifies};
 ghost use Rattle.bl_ct.specs.Verdicts.{Judges};
-ghost use Rattle.bl_words.specs.Requests.{gen};
-ghost use Rattle.bl_words.specs.Words.{gen_in};
+ghost use Rattle.bl_words.specs.{Requests.gen, Words.gen_in};
 
 use crate::command::Command;
 use bl_base::NoMemory;

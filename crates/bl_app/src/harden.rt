@@ -7,13 +7,11 @@ ghost use Rattle.bl_report.specs.Reports.{report_text};
 ghost use Rattle.bl_witness.specs.Texts.{certificate_text};
 ghost use Rattle.bl_ct.specs.Verdicts.{Judges};
 ghost use Rattle.bl_app.specs.HardenJob.{harden_job, harden_plan, sources_in};
-ghost use Rattle.bl_build.specs.WeightStages.{hardening_by};
+ghost use Rattle.bl_build.specs.{WeightStages.hardening_by, StageAnswers.hardened_in};
 ghost use Rattle.bl_job.specs.Jobs.{AreRead};
 ghost use Rattle.bl_text.specs.Names.{AreNamedApart};
-ghost use Rattle.bl_words.specs.Requests.{harden};
-ghost use Rattle.bl_words.specs.Words.{harden_in};
+ghost use Rattle.bl_words.specs.{Requests.harden, Words.harden_in};
 ghost use Rattle.bl_job.specs.WorkAnswers.{IsStaged, keep_in, plan_in, contents_in};
-ghost use Rattle.bl_build.specs.StageAnswers.{hardened_in};
 
 use crate::command::Command;
 use crate::module::module_reads;

@@ -2,8 +2,7 @@
 ghost use Rattle.std.specs.Prelude.{IfOk};
 ghost use Rattle.bl_reduce.specs.Outcomes.{IsStart};
 ghost use Rattle.bl_app.specs.InterpJob.{InterpPlans};
-ghost use Rattle.bl_words.specs.Requests.{interp};
-ghost use Rattle.bl_words.specs.Words.{interp_in};
+ghost use Rattle.bl_words.specs.{Requests.interp, Words.interp_in};
 ghost use Rattle.bl_job.specs.WorkAnswers.{plan_in};
 ghost use Rattle.bl_build.specs.StageAnswers.{invoked_in};
 

@@ -1,17 +1,13 @@
 //! `join`: from the bytes of an interface file and of a client's and a library's image to the image of the program that they are joined to.
 ghost use Rattle.std.specs.Prelude.{◌≡◌, IfOk, string_bytes};
 ghost use Rattle.bl_app.specs.JoinJob.{fails_text, join_plan, joined_text, role_text};
-ghost use Rattle.bl_build.specs.JoinStages.{whole};
-ghost use Rattle.bl_build.specs.StageAnswers.{built_in, union_in};
-ghost use Rattle.bl_job.specs.Jobs.{saying};
-ghost use Rattle.bl_job.specs.WorkAnswers.{plan_in};
-ghost use Rattle.bl_job.specs.declared.status.Status.TheVariants.{No};
-ghost use Rattle.bl_words.specs.Requests.{join};
-ghost use Rattle.bl_words.specs.Words.{join_in};
+ghost use Rattle.bl_build.specs.{JoinStages.whole, StageAnswers.built_in, StageAnswers.union_in};
+ghost use Rattle.bl_job.specs.{Jobs.saying, WorkAnswers.plan_in, declared.status.Status.TheVariants.No};
+ghost use Rattle.bl_words.specs.{Requests.join, Words.join_in};
 
 use crate::command::Command;
-use bl_base::{NoMemory, Pos, Role};
 use bl_base::Quantity::{Image, Interface};
+use bl_base::{NoMemory, Pos, Role};
 use bl_build::{Built, Union, join_images};
 use bl_cmd::WellFormed;
 use bl_job::{Content, Plan, Read, Status, WorkError, list_reads, one_kept, three_files};

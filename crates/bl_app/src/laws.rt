@@ -3,8 +3,7 @@ ghost use Rattle.std.specs.Prelude.{◌≡◌, ◌≤◌, ◌↔◌, ◌⊎◌, 
 ghost use Rattle.bl_base.specs.Quantity.{limit_of};
 ghost use Rattle.bl_base.specs.declared.quantity.Quantity.TheVariants as quantity;
 ghost use Rattle.bl_outside.specs.Shelf.{Files};
-ghost use Rattle.bl_wasm.specs.Linked.{IsLinked};
-ghost use Rattle.bl_wasm.specs.declared.linked.Tree.{Tree};
+ghost use Rattle.bl_wasm.specs.{Linked.IsLinked, declared.linked.Tree.Tree, Exports.value_named};
 ghost use Rattle.bl_lower.specs.Trees.{low_tree, step_bound};
 ghost use Rattle.bl_cmd.specs.declared.definitions.ProgramParts.{ProgramParts as Program};
 ghost use Rattle.bl_format.specs.Image.{Image};
@@ -12,28 +11,19 @@ ghost use Rattle.bl_counts.specs.RecordedRuns.{AreAdded, Recorded, all_executed}
 ghost use Rattle.bl_counts.specs.RunCounts.{bare};
 ghost use Rattle.bl_report.specs.Verdicts.{safe_line};
 ghost use Rattle.bl_build.specs.BuildStages.{AreCompiled, Built, command_count};
-ghost use Rattle.bl_build.specs.LoadStages.{AreShort};
+ghost use Rattle.bl_build.specs.{LoadStages.AreShort, InterfaceStages.IsFileOf, InterfaceStages.Parted};
 ghost use Rattle.bl_build.specs.WeightStages.{AreBuilt, IsWeighed, IsWeighedBy};
-ghost use Rattle.bl_job.specs.Causes.{Causes, NoneRose};
+ghost use Rattle.bl_job.specs.{Causes.Causes, Causes.NoneRose, Refusals.Refusal, Worlds.World, declared.status.Status.Status};
 ghost use Rattle.bl_app.specs.Commands.{HasOnePlan, job_of, row_of, work_of};
 ghost use Rattle.bl_app.specs.CountedHardening.{AreExecutedLeast, AreTaken, IsImageOf};
-ghost use Rattle.bl_app.specs.RunJob.{RunDoes};
-ghost use Rattle.bl_app.specs.HardenJob.{HardenDoes, harden_job};
+ghost use Rattle.bl_app.specs.{RunJob.RunDoes, HardenJob.HardenDoes, HardenJob.harden_job, InterpJob.InterpDoes, PartJob.PartMeans};
 ghost use Rattle.bl_build.specs.HardenStage.{Hardened, IsHardened, IsYes};
-ghost use Rattle.bl_app.specs.InterpJob.{InterpDoes};
 ghost use Rattle.bl_apart.specs.LinkedApart.{IsOwn};
 ghost use Rattle.bl_app.specs.JoinedModules.{AreKept, AreLoaded, Calls, EndsAsLinked, KeepTo, Trees};
-ghost use Rattle.bl_wasm.specs.Exports.{value_named};
 ghost use Rattle.bl_iface.specs.declared.iface.Iface.{Iface};
-ghost use Rattle.bl_build.specs.InterfaceStages.{IsFileOf, Parted};
 ghost use Rattle.bl_job.specs.Jobs.{AreRead, FirstRefusal, IsLawful, IsTotal, Plan};
-ghost use Rattle.bl_job.specs.Refusals.{Refusal};
-ghost use Rattle.bl_app.specs.PartJob.{PartMeans};
-ghost use Rattle.bl_app.specs.PredictJob.{IsFollowed, predict_job};
+ghost use Rattle.bl_app.specs.{PredictJob.IsFollowed, PredictJob.predict_job, VerifyJob.IsVerified, VerifyJob.VerifyDoes};
 ghost use Rattle.bl_words.specs.Requests.{AreInRange, AreDriveStepsInRange, GenRequest, HardenRequest, InterpRequest, IsGenInRange, PartRequest, PredictRequest, Request, RunRequest, gen};
-ghost use Rattle.bl_app.specs.VerifyJob.{IsVerified, VerifyDoes};
-ghost use Rattle.bl_job.specs.Worlds.{World};
-ghost use Rattle.bl_job.specs.declared.status.Status.{Status};
 ghost use Rattle.bl_job.specs.declared.status.Status.TheVariants as status;
 
 /// The job of each request: its contents have at most one refusal, and nothing is done where one stands; all that may be done has

@@ -1,8 +1,7 @@
 //! The status and the text of a run's end.
 ghost use Rattle.std.specs.Prelude.{◌≡◌, IfOk};
 ghost use Rattle.bl_base.specs.Runs.{outcome_of};
-ghost use Rattle.bl_app.specs.RunJob.{plain_text};
-ghost use Rattle.bl_app.specs.Outcomes.{outcome_status};
+ghost use Rattle.bl_app.specs.{RunJob.plain_text, Outcomes.outcome_status};
 ghost use Rattle.bl_build.specs.StageAnswers.{IsPrepared, prepared_in};
 
 use bl_base::{NoMemory, Run};

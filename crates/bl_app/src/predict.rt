@@ -5,8 +5,7 @@ ghost use Rattle.std.specs.Fmt.{decimal};
 ghost use Rattle.bl_predict.specs.Drives.{IsDriven};
 ghost use Rattle.bl_app.specs.ForwardJob.{IsSafe};
 ghost use Rattle.bl_app.specs.PredictJob.{PredictPlans, alike_text, driven_of, is_verdict_safe, met_by};
-ghost use Rattle.bl_words.specs.Requests.{predict};
-ghost use Rattle.bl_words.specs.Words.{predict_in};
+ghost use Rattle.bl_words.specs.{Requests.predict, Words.predict_in};
 ghost use Rattle.bl_job.specs.WorkAnswers.{plan_in};
 ghost use Rattle.bl_build.specs.StageAnswers.{IsPrepared, prepared_in};
 

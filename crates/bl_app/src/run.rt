@@ -1,8 +1,7 @@
 //! `run`: from an image's bytes and a start file's to the text of the outcome of a plain run.
 ghost use Rattle.std.specs.Prelude.{None, Some, IfOk};
 ghost use Rattle.bl_app.specs.RunJob.{RunPlans};
-ghost use Rattle.bl_words.specs.Requests.{AreInRange, run};
-ghost use Rattle.bl_words.specs.Words.{run_in, text_in};
+ghost use Rattle.bl_words.specs.{Requests.AreInRange, Requests.run, Words.run_in, Words.text_in};
 ghost use Rattle.bl_job.specs.WorkAnswers.{plan_in};
 ghost use Rattle.bl_build.specs.StageAnswers.{IsPrepared, prepared_in};
 

@@ -1,14 +1,11 @@
 //! `spec`: from the bytes of an image, a trace file and a start file to the lines of what is observed of the buffer machine.
 ghost use Rattle.std.specs.Prelude.{◌≡◌, ◌++◌, IfOk, codes};
-ghost use Rattle.std.specs.Fmt.{decimal};
-ghost use Rattle.std.specs.List.{flat_map};
+ghost use Rattle.std.specs.{Fmt.decimal, List.flat_map};
 ghost use Rattle.bl_outcome.specs.Lines.{line};
-ghost use Rattle.bl_rob.specs.CallResults.{outcome_in, shown};
-ghost use Rattle.bl_rob.specs.Machines.{opening};
+ghost use Rattle.bl_rob.specs.{CallResults.outcome_in, CallResults.shown, Machines.opening};
 ghost use Rattle.bl_trace.specs.Observations.{observation_text};
 ghost use Rattle.bl_app.specs.SpecJob.{SpecPlans, last_text, spec_status};
-ghost use Rattle.bl_words.specs.Requests.{spec};
-ghost use Rattle.bl_words.specs.Words.{spec_in};
+ghost use Rattle.bl_words.specs.{Requests.spec, Words.spec_in};
 ghost use Rattle.bl_job.specs.WorkAnswers.{plan_in};
 ghost use Rattle.bl_build.specs.StageAnswers.{IsPrepared, prepared_in, speculated_in};
 
@@ -32,7 +29,11 @@ impl<'a> Command<'a> for SpecWords<'a> {
     fn reads(&self, alloc: Global) -> Result<Vec<Read<'a>>, NoMemory> {
         list_reads(
             alloc,
-            &[(self.image, Image), (self.trace, Trace), (self.start, Start)],
+            &[
+                (self.image, Image),
+                (self.trace, Trace),
+                (self.start, Start),
+            ],
         )
     }
 

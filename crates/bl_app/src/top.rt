@@ -2,13 +2,10 @@
 ghost use Rattle.std.specs.Prelude.{◌≤◌, Some, length, map, string_bytes};
 ghost use Rattle.bl_base.specs.Quantity.{limit_of};
 ghost use Rattle.bl_base.specs.declared.quantity.Quantity.TheVariants as quantity;
-ghost use Rattle.bl_app.specs.Commands.{IsSized, job_of};
-ghost use Rattle.bl_app.specs.Promises.{Promises};
-ghost use Rattle.bl_job.specs.Ends.{Ends};
+ghost use Rattle.bl_app.specs.{Commands.IsSized, Commands.job_of, Promises.Promises};
+ghost use Rattle.bl_job.specs.{Ends.Ends, Worlds.world};
 ghost use Rattle.bl_text.specs.Names.{AreNamedApart};
-ghost use Rattle.bl_words.specs.Requests.{modules_in, request_of};
-ghost use Rattle.bl_words.specs.Words.{request_in};
-ghost use Rattle.bl_job.specs.Worlds.{world};
+ghost use Rattle.bl_words.specs.{Requests.modules_in, Requests.request_of, Words.request_in};
 
 use crate::command::Command;
 use bl_base::{NoMemory, Quantity};

@@ -1,12 +1,10 @@
 //! `twin`: from the bytes of an image, a trace file and two start files to how the two runs are observed, side by side.
 ghost use Rattle.std.specs.Prelude.{◌≡◌, None, IfOk};
-ghost use Rattle.bl_job.specs.Jobs.{AreRead};
-ghost use Rattle.bl_job.specs.StagedJobs.{contents_stage};
+ghost use Rattle.bl_job.specs.{Jobs.AreRead, StagedJobs.contents_stage};
 ghost use Rattle.bl_app.specs.TwinJob.{TwinPlans, twin_staged, twin_status};
 ghost use Rattle.bl_job.specs.WorkAnswers.{IsStaged, plan_in, contents_in};
 ghost use Rattle.bl_build.specs.StageAnswers.{HasOther, IsPrepared, twinned_in};
-ghost use Rattle.bl_words.specs.Requests.{twin};
-ghost use Rattle.bl_words.specs.Words.{twin_in};
+ghost use Rattle.bl_words.specs.{Requests.twin, Words.twin_in};
 
 use crate::command::Command;
 use bl_base::NoMemory;

@@ -4,12 +4,11 @@ ghost use Rattle.bl_app.specs.VerifyJob.{Shows, VerifyPlans, found_plan, found_s
 ghost use Rattle.bl_build.specs.StageAnswers.{certified_in};
 ghost use Rattle.bl_job.specs.WorkAnswers.{plan_in};
 ghost use Rattle.bl_graph.specs.Graphs.{IsGraph};
-ghost use Rattle.bl_words.specs.Requests.{verify};
-ghost use Rattle.bl_words.specs.Words.{verify_in};
+ghost use Rattle.bl_words.specs.{Requests.verify, Words.verify_in};
 
 use crate::command::Command;
-use bl_base::{NoMemory, Pos};
 use bl_base::Quantity::{Certificate, Image};
+use bl_base::{NoMemory, Pos};
 use bl_build::{Certified, read_certified};
 use bl_ct::secret_chain_of;
 use bl_graph::{Graph, SecretChain, graph};

@@ -1,7 +1,5 @@
 //! Carrying out what is to be done.
-ghost use Rattle.bl_job.specs.Ends.{Delivers};
-ghost use Rattle.bl_job.specs.Texts.{write_fault_text};
-ghost use Rattle.bl_job.specs.WorkAnswers.{NotKept, plan_in};
+ghost use Rattle.bl_job.specs.{Ends.Delivers, Texts.write_fault_text, WorkAnswers.NotKept, WorkAnswers.plan_in};
 ghost use Rattle.bl_job.specs.Worlds.{stream, world};
 
 use crate::job::Plan;

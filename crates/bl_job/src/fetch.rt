@@ -2,12 +2,10 @@
 ghost use Rattle.std.specs.Prelude.{◌+◌, ◌≤◌, All, map};
 ghost use Rattle.bl_base.specs.Quantity.{limit_of};
 ghost use Rattle.bl_outside.specs.Shelf.{most_asked};
-ghost use Rattle.bl_job.specs.Refusals.{limit};
-ghost use Rattle.bl_job.specs.Texts.{refusal_text};
+ghost use Rattle.bl_job.specs.{Refusals.limit, Texts.refusal_text, declared.status.Status.TheVariants.Refused};
 ghost use Rattle.bl_job.specs.WorkAnswers.{AllFetched, Fetched, read_in};
 ghost use Rattle.bl_job.specs.Worlds.{SaidIfRoom, stream, world};
 ghost use Rattle.bl_job.specs.declared.status.Reason.TheVariants as reason;
-ghost use Rattle.bl_job.specs.declared.status.Status.TheVariants.{Refused};
 
 use crate::content::Content;
 use crate::job::Read;

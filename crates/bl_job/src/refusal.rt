@@ -1,10 +1,8 @@
 //! Why a request is refused: a reason and a line. Each refusal is made where it arises.
 ghost use Rattle.std.specs.Prelude.{◌≡◌, [], ◌∷◌, IfOk, Some};
-ghost use Rattle.std.specs.Fmt.{decimal};
-ghost use Rattle.std.specs.List.{flat_map};
+ghost use Rattle.std.specs.{Fmt.decimal, List.flat_map};
 ghost use Rattle.bl_outcome.specs.Lines.{line};
-ghost use Rattle.bl_job.specs.Refusals.{limit, refusal_of};
-ghost use Rattle.bl_job.specs.WorkAnswers.{IsTold};
+ghost use Rattle.bl_job.specs.{Refusals.limit, Refusals.refusal_of, WorkAnswers.IsTold};
 ghost use Rattle.bl_job.specs.declared.refusal.WorkError.TheVariants as error;
 
 use crate::status::Reason;
