@@ -14,7 +14,7 @@ use Rattle.bl_rob.specs.CallResults.{outcome_in}
 use Rattle.bl_sct.specs.OtherSecrets.{HasOtherSecrets}
 use Rattle.bl_sct.specs.Verdicts.{Assesses}
 use Rattle.bl_sct.specs.declared.verdict.Verdict.{Verdict}
-use Rattle.bl_sct.specs.declared.verdict.Verdict.TheVariants.{Safe, NotConstantTime, NotStable}
+use Rattle.bl_sct.specs.declared.verdict.Verdict.TheVariants.{Safe}
 use Rattle.bl_trace.specs.Traces.{trace_text}
 use Rattle.bl_words.specs.Requests.{PredictRequest, SpecRequest}
 use Rattle.bl_app.specs.RunJob.{image_read, plain_text}
@@ -61,11 +61,6 @@ met_by driven = met_text (length driven.trace) driven.rollbacks driven.hits driv
 abbrev pub alike_text : Bool → List ℕ
 alike_text true = line (codes "alike yes")
 alike_text false = line (codes "alike no")
-
-abbrev pub is_verdict_safe : Verdict → Bool
-is_verdict_safe Safe = true
-is_verdict_safe (NotConstantTime chain) = false
-is_verdict_safe (NotStable position) = false
 
 -- ---- the command
 

@@ -61,8 +61,8 @@ fn tell<'a>(alloc: Global, twins: &Twins) -> Result<Plan<'a>, NoMemory>
     })
 }
 
-/// Whether a program is safe where stores are forwarded.
-fn is_safe(alloc: Global, program: &WellFormed) -> Result<bool, NoMemory>
+/// Whether a program is safe, also where stores are forwarded.
+pub fn is_safe(alloc: Global, program: &WellFormed) -> Result<bool, NoMemory>
     ensures { IfOk result (λ safe. IsTrue safe ↔ IsSafe program.now) }
 {
     let verdict = forward_safe(alloc, program)?;

@@ -1,23 +1,21 @@
 //! `predict`: from an image's bytes and a start file's to the trace file of the directives that a predictor chooses, what it met, and the
 //! outcome.
-ghost use Rattle.std.specs.Prelude.{◌≡◌, ◌↔◌, ◌++◌, IfOk, IsTrue, OnOk};
+ghost use Rattle.std.specs.Prelude.{◌≡◌, ◌++◌, IfOk, OnOk};
 ghost use Rattle.std.specs.Fmt.{decimal};
 ghost use Rattle.bl_predict.specs.Drives.{IsDriven};
-ghost use Rattle.bl_app.specs.ForwardJob.{IsSafe};
-ghost use Rattle.bl_app.specs.PredictJob.{PredictPlans, alike_text, driven_of, is_verdict_safe, met_by};
+ghost use Rattle.bl_app.specs.PredictJob.{PredictPlans, alike_text, driven_of, met_by};
 ghost use Rattle.bl_words.specs.{Requests.predict, Words.predict_in};
 ghost use Rattle.bl_job.specs.WorkAnswers.{plan_in};
 ghost use Rattle.bl_build.specs.StageAnswers.{IsPrepared, prepared_in};
 
 use crate::command::Command;
+use crate::forward::is_safe;
 use crate::outcome::{outcome_status, plain_text};
 use bl_base::NoMemory;
 use bl_base::Quantity::{Image, Start};
 use bl_build::{Prepared, prepare};
-use bl_cmd::WellFormed;
 use bl_job::{Content, Plan, Read, WorkError, list_reads, one_kept, two_files};
 use bl_predict::{Driven, drive};
-use bl_sct::{Verdict, assess};
 use bl_trace::trace_text;
 use bl_words::PredictWords;
 use std::alloc::Global;
@@ -82,21 +80,6 @@ fn tell_driven<'a>(
         keeps,
         text,
     })
-}
-
-/// Whether the program is safe.
-fn is_safe(alloc: Global, program: &WellFormed) -> Result<bool, NoMemory>
-    ensures { IfOk result (λ safe. IsTrue safe ↔ IsSafe program.now) }
-{
-    let verdict = assess(alloc, program)?;
-    Ok(is_verdict_safe(&verdict))
-}
-
-/// Whether a verdict is that a program is safe.
-fn is_verdict_safe(verdict: &Verdict) -> bool
-    ensures { result ≡ is_verdict_safe verdict.now }
-{
-    matches!(verdict, Verdict::Safe)
 }
 
 /// The line on whether a program is safe: with a yes other secrets give the same trace and counts; with a no nothing is said of them.
