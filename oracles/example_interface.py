@@ -230,10 +230,10 @@ use Rattle.bl_base.specs.declared.names.ValueType.TheVariants as value
 use Rattle.bl_base.specs.declared.trap.Trap.TheVariants as trap
 use Rattle.bl_ops.specs.declared.access.AccessKind.TheVariants as kind
 use Rattle.bl_ops.specs.declared.op.Op.TheVariants as op
-use Rattle.bl_cmd.specs.declared.command.Command.TheVariants.{Set, Load, Test, Jump, Arg, Call, Out, Ret, Trap}
-use Rattle.bl_cmd.specs.declared.command.Operand.TheVariants.{Var, Const}
-use Rattle.bl_cmd.specs.declared.definitions.Demand.TheVariants as demand
-use Rattle.bl_cmd.specs.declared.definitions.ProgramParts.{ProgramParts as Program}
+use Rattle.bl_program.specs.declared.command.Command.TheVariants.{Set, Load, Test, Jump, Arg, Call, Out, Ret, Trap}
+use Rattle.bl_program.specs.declared.command.Operand.TheVariants.{Var, Const}
+use Rattle.bl_program.specs.declared.definitions.Demand.TheVariants as demand
+use Rattle.bl_program.specs.declared.definitions.ProgramParts.{ProgramParts as Program}
 use Rattle.bl_iface.specs.declared.iface.Iface.{Iface}
 """
 

@@ -16,7 +16,7 @@ use Rattle.bl_link.specs.Stores.{OfPart}
 use Rattle.bl_link.specs.ExportNames.{Values}
 use Rattle.bl_link.specs.declared.part.Part.{Part}
 use Rattle.bl_link.proofs.NameLemmas.{came}
-use Rattle.bl_cmd.proofs.AppendLemmas.{get_left, get_right}
+use Rattle.bl_program.proofs.AppendLemmas.{get_left, get_right}
 use Rattle.bl_iface.specs.JoinedProgram.{is_named}
 use Rattle.bl_iface.specs.declared.iface.FnIface.{FnIface}
 use Rattle.bl_iface.specs.declared.iface.Iface.{Iface}

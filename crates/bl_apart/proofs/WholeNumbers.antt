@@ -15,7 +15,7 @@ use Rattle.bl_apart.specs.Beside.{AreBeside, Beside}
 use Rattle.bl_apart.specs.BesideStores.{Agree}
 use Rattle.bl_apart.specs.LinkedApart.{behind, setting, whole_numbers}
 use Rattle.bl_rename.proofs.NamedInRange.{AgreeIn, function_same, slots_same}
-use Rattle.bl_cmd.proofs.AppendLemmas.{get_left, get_right}
+use Rattle.bl_program.proofs.AppendLemmas.{get_left, get_right}
 use Rattle.bl_apart.proofs.BesideSegments.{map_itself}
 
 -- ---- numbers

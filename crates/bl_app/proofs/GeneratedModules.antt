@@ -14,8 +14,8 @@ use Rattle.bl_labels.specs.LabelledPlaces.{unlabelled}
 use Rattle.bl_link.specs.IndexSpaces.{names, spaces_of}
 use Rattle.bl_link.specs.Links.{function, indexed, nothing, part_of, with_tree}
 use Rattle.bl_link.specs.Signatures.{signature}
-use Rattle.bl_cmd.specs.declared.definitions.ExportDef.{ExportDef}
-use Rattle.bl_cmd.specs.declared.definitions.FunctionDef.{FunctionDef}
+use Rattle.bl_program.specs.declared.definitions.ExportDef.{ExportDef}
+use Rattle.bl_program.specs.declared.definitions.FunctionDef.{FunctionDef}
 use Rattle.bl_format.specs.Image.{Image}
 use Rattle.bl_format.proofs.ImageExistence.{AreSmall}
 use Rattle.bl_image.proofs.ShortImages.{short_image}

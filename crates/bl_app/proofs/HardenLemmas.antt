@@ -7,7 +7,7 @@ use Rattle.std.specs.List.{AllByRecursion}
 use Rattle.bl_base.specs.Quantity.{limit_of}
 use Rattle.bl_base.specs.declared.quantity.Quantity.TheVariants as quantity
 use Rattle.bl_wasm.specs.declared.linked.Tree.{Tree}
-use Rattle.bl_cmd.specs.Rules.{IsWellFormed}
+use Rattle.bl_program.specs.Rules.{IsWellFormed}
 use Rattle.bl_format.specs.Image.{Image}
 use Rattle.bl_lower.proofs.WellFormed.{rules}
 use Rattle.bl_build.specs.BuildStages.{AreCompilable, AreCompiled, Built, compiling}

@@ -7,12 +7,12 @@ use Rattle.std.proofs.lemmas.Option.{same_Some}
 use Rattle.bl_base.specs.Runs.{MemoryState, Outcome, returned, trapped}
 use Rattle.bl_base.specs.declared.names.ValueType.{ValueType}
 use Rattle.bl_base.specs.declared.start.Start.{Start}
-use Rattle.bl_cmd.specs.declared.definitions.ProgramParts.{ProgramParts as Program}
+use Rattle.bl_program.specs.declared.definitions.ProgramParts.{ProgramParts as Program}
 use Rattle.bl_wasm.specs.Exports.{Pairs, value_named}
 use Rattle.bl_wasm.specs.declared.linked.Signature.{Signature}
 use Rattle.bl_wasm.specs.declared.linked.Tree.{Tree}
 use Rattle.bl_reduce.specs.Outcomes.{first_store, source}
-use Rattle.bl_cmd.specs.Outcomes.{first_memories, plain}
+use Rattle.bl_program.specs.Outcomes.{first_memories, plain}
 use Rattle.bl_format.specs.Image.{Image}
 use Rattle.bl_image.proofs.Prefixes.{one_program}
 use Rattle.bl_lower.specs.Trees.{export_def, low_tree, memory_def, step_bound}

@@ -19,8 +19,8 @@ use Rattle.bl_link.specs.ExportNames.{qualified}
 use Rattle.bl_link.specs.Links.{part_of}
 use Rattle.bl_link.specs.declared.part.Part.{Part as LinkPart}
 use Rattle.bl_reduce.specs.Runnable.{IsRunnable, runnable}
-use Rattle.bl_cmd.specs.Outcomes.{plain}
-use Rattle.bl_cmd.specs.declared.definitions.ProgramParts.{ProgramParts as Program}
+use Rattle.bl_program.specs.Outcomes.{plain}
+use Rattle.bl_program.specs.declared.definitions.ProgramParts.{ProgramParts as Program}
 use Rattle.bl_counts.specs.RunCounts.{bare}
 use Rattle.bl_format.specs.Image.{Image}
 use Rattle.bl_lower.specs.Trees.{low_tree, step_bound}

@@ -3,11 +3,12 @@ use Rattle.std.proofs.Common.{◌≡◌, ℕ, List, [], ◌∷◌, Bool, Option,
 use Rattle.std.specs.Prelude.{IsSomeAnd}
 use Rattle.std.specs.List.{All}
 use Rattle.bl_base.proofs.Lists.{all_from, all_get}
+use Rattle.bl_base.proofs.OptionLemmas.{some_with}
 use Rattle.bl_wasm.specs.Exports.{value_named}
 use Rattle.bl_wasm.specs.Linked.{IsLinked}
 use Rattle.bl_wasm.specs.declared.linked.Tree.{Tree}
 use Rattle.bl_reduce.specs.Runnable.{IsRunnable}
-use Rattle.bl_cmd.specs.declared.definitions.ProgramParts.{ProgramParts as Program}
+use Rattle.bl_program.specs.declared.definitions.ProgramParts.{ProgramParts as Program}
 use Rattle.bl_cut.specs.Marks.{protected}
 use Rattle.bl_counts.specs.RunCounts.{bare}
 use Rattle.bl_counts.proofs.BarePrograms.{bare_protected}
@@ -100,15 +101,11 @@ says sides union (are_joined built both can sized) = record { can = can; is_prog
 
 -- ---- the tree of both
 
-some_and : (found : Option ℕ) (P : ℕ → Type 0) → IsSomeAnd found P → (function : ℕ) × (found ≡ Some function)
-some_and None P h = absurd h
-some_and (Some function) P h = (function, refl)
-
 -- a program that is a tree's, but for marks and weights, exports what the tree does
 found_in : (tree : Tree) (program : Program) (name : List ℕ) (P : ℕ → Type 0) → bare program ≡ bare (low_tree tree) → IsSomeAnd (exported program.exports name) P
     → (function : ℕ) × (value_named name tree.exports ≡ Some function)
 found_in tree program name P is h =
-    let found = some_and (exported program.exports name) P h in
+    let found = some_with (exported program.exports name) P h in
     (found.0, sym (exported_same tree.exports name) ∙ sym (ap (λ (p : Program). exported p.exports name) is) ∙ found.1)
 
 -- the program is that of the joined tree, which can be run, and both trees export the functions of the interface

@@ -3,8 +3,8 @@ use Rattle.std.proofs.Common.{◌≡◌, ◌<◌, ◌∙◌, ap, refl, subst, sy
 use Rattle.bl_base.specs.Quantity.{limit_of}
 use Rattle.bl_base.specs.declared.quantity.Quantity.TheVariants as quantity
 use Rattle.bl_wasm.specs.declared.linked.Tree.{Tree}
-use Rattle.bl_cmd.specs.Rules.{IsWellFormed}
-use Rattle.bl_cmd.specs.declared.definitions.ProgramParts.{ProgramParts as Program}
+use Rattle.bl_program.specs.Rules.{IsWellFormed}
+use Rattle.bl_program.specs.declared.definitions.ProgramParts.{ProgramParts as Program}
 use Rattle.bl_format.specs.Image.{Image}
 use Rattle.bl_image.proofs.Prefixes.{one_program}
 use Rattle.bl_lower.specs.Trees.{low_tree}

@@ -13,10 +13,10 @@ use Rattle.bl_base.specs.declared.start.Start.{Start}
 use Rattle.bl_base.proofs.Classical.{either}
 use Rattle.bl_text.proofs.LineTexts.{all_read, lines_counted}
 use Rattle.bl_text.specs.Lines.{lines_of}
-use Rattle.bl_cmd.specs.Outcomes.{Agree, IsStart, opening as plain_opening}
-use Rattle.bl_cmd.specs.Programs.{IsProgram}
-use Rattle.bl_cmd.specs.Rules.{IsWellFormed}
-use Rattle.bl_cmd.specs.declared.definitions.ProgramParts.{ProgramParts as Program}
+use Rattle.bl_program.specs.Outcomes.{Agree, IsStart, opening as plain_opening}
+use Rattle.bl_program.specs.Programs.{IsProgram}
+use Rattle.bl_program.specs.Rules.{IsWellFormed}
+use Rattle.bl_program.specs.declared.definitions.ProgramParts.{ProgramParts as Program}
 use Rattle.bl_predict.specs.Drives.{AreSame, DriveState, IsDriven, begun, driven}
 use Rattle.bl_predict.specs.declared.driver.Driven.{Driven}
 use Rattle.bl_predict.specs.DriveDirectives.{IsNear, IsTaken}

@@ -2,8 +2,8 @@
 use Rattle.std.proofs.Common.{◌≡◌, ℕ, List, map, Option, Some, None, refl, ap, sym, ◌∙◌, arith, inl}
 use Rattle.bl_base.specs.Runs.{IsWithin, Outcome, returned, trapped}
 use Rattle.bl_base.proofs.RunLemmas.{run_unique}
-use Rattle.bl_cmd.specs.Outcomes.{opening, plain}
-use Rattle.bl_cmd.specs.Steps.{plain_step}
+use Rattle.bl_program.specs.Outcomes.{opening, plain}
+use Rattle.bl_program.specs.Steps.{plain_step}
 use Rattle.bl_build.specs.EntryStages.{Entered, entering, finding, program_entering, starting}
 use Rattle.bl_app.specs.RunJob.{HasPlainOutcome, RunPlans, counts_kept, run_plan, run_staged}
 use Rattle.bl_job.specs.Jobs.{Plan}
@@ -12,7 +12,7 @@ use Rattle.bl_words.specs.Requests.{RunRequest, file_named}
 use Rattle.bl_job.specs.Status.{kind_of, of_deed}
 use Rattle.bl_build.proofs.EntryStageLemmas.{finding_lawful, imaged_lawful, starting_lawful}
 use Rattle.bl_build.proofs.ImagesTotal.{finding_total, imaged_total, starting_total}
-use Rattle.bl_cmd.specs.Rules.{IsWellFormed}
+use Rattle.bl_program.specs.Rules.{IsWellFormed}
 use Rattle.bl_job.specs.Stages.{Anything, IsLawfulStage, IsTotalStage}
 use Rattle.bl_job.proofs.StageLemmas.{chain_lawful, chain_total}
 use Rattle.bl_job.proofs.StagedJobLemmas.{IsStagedCommand}

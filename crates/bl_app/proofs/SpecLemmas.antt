@@ -5,9 +5,9 @@ use Rattle.std.specs.declared.alloc.Global.{Global}
 use Rattle.bl_base.specs.Runs.{EndsAfter, Outcome, outcome_of}
 use Rattle.bl_base.specs.declared.run.Run.{Run}
 use Rattle.bl_base.specs.declared.start.Start.{Start}
-use Rattle.bl_cmd.specs.declared.definitions.ProgramParts.{ProgramParts as Program}
-use Rattle.bl_cmd.specs.Outcomes.{IsStart, opening, plain}
-use Rattle.bl_cmd.specs.Steps.{plain_step}
+use Rattle.bl_program.specs.declared.definitions.ProgramParts.{ProgramParts as Program}
+use Rattle.bl_program.specs.Outcomes.{IsStart, opening, plain}
+use Rattle.bl_program.specs.Steps.{plain_step}
 use Rattle.bl_rob.specs.Machines.{State, end_in, outcome_by}
 use Rattle.bl_rob.specs.Observations.{IsConsistent, IsConsistentBy}
 use Rattle.bl_rob.specs.declared.directive.End.{End}

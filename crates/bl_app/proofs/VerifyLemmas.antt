@@ -1,9 +1,9 @@
 -- The job of `verify` keeps the laws; what is said where it is done.
 use Rattle.std.proofs.Common.{◌≡◌, ℕ, List, inr, refl, ap, sym, ◌∙◌, subst, arith}
-use Rattle.bl_cmd.specs.Programs.{IsProgram}
-use Rattle.bl_cmd.specs.Rules.{IsWellFormed}
-use Rattle.bl_cmd.specs.Sites.{is_protected}
-use Rattle.bl_cmd.specs.declared.definitions.ProgramParts.{ProgramParts as Program}
+use Rattle.bl_program.specs.Programs.{IsProgram}
+use Rattle.bl_program.specs.Rules.{IsWellFormed}
+use Rattle.bl_program.specs.Sites.{is_protected}
+use Rattle.bl_program.specs.declared.definitions.ProgramParts.{ProgramParts as Program}
 use Rattle.bl_graph.proofs.RangeLemmas.{in_range}
 use Rattle.bl_ct.specs.Verdicts.{FindsChain}
 use Rattle.bl_report.specs.Verdicts.{verdicts_of}

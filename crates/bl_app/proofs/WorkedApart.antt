@@ -38,7 +38,7 @@ use Rattle.bl_labels.specs.LabelledPlaces.{unlabelled}
 use Rattle.bl_link.specs.Linkable.{AreParts, IsPart, IsSound, NoSolidus}
 use Rattle.bl_link.specs.Links.{part_of}
 use Rattle.bl_link.specs.declared.part.Part.{Part}
-use Rattle.bl_cmd.specs.declared.definitions.ExportDef.{ExportDef}
+use Rattle.bl_program.specs.declared.definitions.ExportDef.{ExportDef}
 use Rattle.bl_lower.specs.Trees.{low_tree}
 use Rattle.bl_iface.specs.JoinedProgram.{CanJoin, HasSameTypes, IsNew, IsWithin, kept, sums, types_of}
 use Rattle.bl_iface.specs.declared.iface.FnIface.{FnIface}

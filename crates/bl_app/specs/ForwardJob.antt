@@ -1,6 +1,6 @@
 -- `forward`: its job, and what is said where it is done.
 use Rattle.std.specs.Prelude.{◌≡◌, ◌↔◌, ℕ, Bool, true, false, IsTrue, List, ◌++◌, codes}
-use Rattle.bl_cmd.specs.declared.definitions.ProgramParts.{ProgramParts as Program}
+use Rattle.bl_program.specs.declared.definitions.ProgramParts.{ProgramParts as Program}
 use Rattle.bl_forward.specs.ForwardMachines.{HasEqualForwarding, forward_step, observed_forwarding}
 use Rattle.bl_forward.specs.SightTexts.{are_same, seen_text}
 use Rattle.bl_forward.specs.Verdicts.{AssessesForward}

@@ -13,8 +13,8 @@ use Rattle.bl_wasm.specs.declared.module.Import.{Import}
 use Rattle.bl_wasm.specs.declared.module.Module.{Module}
 use Rattle.bl_link.specs.ExportNames.{qualified}
 use Rattle.bl_reduce.specs.Outcomes.{IsStart, source}
-use Rattle.bl_cmd.specs.Outcomes.{plain}
-use Rattle.bl_cmd.specs.declared.definitions.ProgramParts.{ProgramParts as Program}
+use Rattle.bl_program.specs.Outcomes.{plain}
+use Rattle.bl_program.specs.declared.definitions.ProgramParts.{ProgramParts as Program}
 use Rattle.bl_lower.specs.Trees.{step_bound}
 use Rattle.bl_iface.specs.JoinedProgram.{is_named}
 use Rattle.bl_iface.specs.declared.iface.Iface.{Iface}

@@ -4,7 +4,7 @@ use Rattle.bl_base.specs.Quantity.{limit_of}
 use Rattle.bl_base.specs.declared.quantity.Quantity.TheVariants as quantity
 use Rattle.bl_cut.specs.Least.{LeastUnder}
 use Rattle.bl_cut.specs.Marks.{protected}
-use Rattle.bl_cmd.specs.Sites.{is_protected}
+use Rattle.bl_program.specs.Sites.{is_protected}
 use Rattle.bl_iface.specs.InterfaceFunctions.{Matches}
 use Rattle.bl_iface.specs.Roles.{PassesAs}
 use Rattle.bl_iface.specs.RoleTests.{asked}

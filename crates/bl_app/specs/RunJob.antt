@@ -2,7 +2,7 @@
 use Rattle.std.specs.Prelude.{◌≡◌, ℕ, List, [], ◌∷◌, length, Option, Some, None}
 use Rattle.bl_base.specs.Runs.{IsWithin, Outcome}
 use Rattle.bl_base.specs.declared.quantity.Quantity.TheVariants as quantity
-use Rattle.bl_cmd.specs.Outcomes.{first_memories, plain}
+use Rattle.bl_program.specs.Outcomes.{first_memories, plain}
 use Rattle.bl_counts.specs.CountFiles.{counts_text}
 use Rattle.bl_counts.specs.RunCounts.{counts_of}
 use Rattle.bl_outcome.specs.Outcomes.{outcome_text}

@@ -4,7 +4,7 @@ use Rattle.std.specs.Fmt.{decimal}
 use Rattle.std.specs.List.{flat_map}
 use Rattle.bl_base.specs.Runs.{Outcome}
 use Rattle.bl_base.specs.declared.quantity.Quantity.TheVariants as quantity
-use Rattle.bl_cmd.specs.Outcomes.{plain}
+use Rattle.bl_program.specs.Outcomes.{plain}
 use Rattle.bl_rob.specs.CallResults.{outcome_in}
 use Rattle.bl_rob.specs.Machines.{State}
 use Rattle.bl_rob.specs.Observations.{Observed, observed, reached}

@@ -1,6 +1,6 @@
 -- `twin`: its job, and what is said where it is done.
 use Rattle.std.specs.Prelude.{◌≡◌, ◌↔◌, Bool, IsTrue, [], ◌∷◌}
-use Rattle.bl_cmd.specs.Outcomes.{Agree}
+use Rattle.bl_program.specs.Outcomes.{Agree}
 use Rattle.bl_graph.specs.Labels.{ConstantTime}
 use Rattle.bl_rob.specs.Observations.{Observed, observed}
 use Rattle.bl_rob.specs.declared.directive.Observation.{Observation}

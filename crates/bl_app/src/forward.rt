@@ -10,9 +10,9 @@ use crate::command::Command;
 use crate::twin::{twin_status, twins_of};
 use bl_base::NoMemory;
 use bl_build::Twins;
-use bl_cmd::WellFormed;
 use bl_forward::{ForwardVerdict, compare_forwarding, forward_safe};
 use bl_job::{Content, Plan, Read, WorkError};
+use bl_program::WellFormed;
 use bl_words::TwinWords;
 use std::alloc::Global;
 

@@ -9,8 +9,8 @@ use crate::command::Command;
 use bl_base::Quantity::{Image, Interface};
 use bl_base::{NoMemory, Pos, Role};
 use bl_build::{Built, Union, join_images};
-use bl_cmd::WellFormed;
 use bl_job::{Content, Plan, Read, Status, WorkError, list_reads, one_kept, three_files};
+use bl_program::WellFormed;
 use bl_words::JoinWords;
 use std::alloc::Global;
 

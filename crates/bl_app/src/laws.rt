@@ -5,7 +5,7 @@ ghost use Rattle.bl_base.specs.declared.quantity.Quantity.TheVariants as quantit
 ghost use Rattle.bl_outside.specs.Shelf.{Files};
 ghost use Rattle.bl_wasm.specs.{Linked.IsLinked, declared.linked.Tree.Tree, Exports.value_named};
 ghost use Rattle.bl_lower.specs.Trees.{low_tree, step_bound};
-ghost use Rattle.bl_cmd.specs.declared.definitions.ProgramParts.{ProgramParts as Program};
+ghost use Rattle.bl_program.specs.declared.definitions.ProgramParts.{ProgramParts as Program};
 ghost use Rattle.bl_format.specs.Image.{Image};
 ghost use Rattle.bl_counts.specs.RecordedRuns.{AreAdded, Recorded, all_executed};
 ghost use Rattle.bl_counts.specs.RunCounts.{bare};

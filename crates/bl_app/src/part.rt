@@ -4,7 +4,7 @@ ghost use Rattle.bl_base.specs.Quantity.{limit_of};
 ghost use Rattle.bl_base.specs.declared.quantity.Quantity.TheVariants as quantity;
 ghost use Rattle.bl_app.specs.PartJob.{part_job, part_plan, part_staged};
 ghost use Rattle.bl_build.specs.StageAnswers.{parted_in};
-ghost use Rattle.bl_cmd.specs.Sites.{is_protected, weight_of};
+ghost use Rattle.bl_program.specs.Sites.{is_protected, weight_of};
 ghost use Rattle.bl_job.specs.{Jobs.AreRead, StagedJobs.contents_stage};
 ghost use Rattle.bl_job.specs.WorkAnswers.{IsStaged, contents_in, plan_in};
 ghost use Rattle.bl_text.specs.Names.{AreNamedApart};

@@ -9,9 +9,9 @@ use Rattle.bl_base.proofs.RunLemmas.{run_unique}
 use Rattle.bl_wasm.specs.declared.linked.Tree.{Tree}
 use Rattle.bl_reduce.specs.Outcomes.{opening as source_opening}
 use Rattle.bl_reduce.specs.Steps.{source_step}
-use Rattle.bl_cmd.specs.Outcomes.{opening}
-use Rattle.bl_cmd.specs.Steps.{plain_step}
-use Rattle.bl_cmd.specs.declared.definitions.ProgramParts.{ProgramParts as Program}
+use Rattle.bl_program.specs.Outcomes.{opening}
+use Rattle.bl_program.specs.Steps.{plain_step}
+use Rattle.bl_program.specs.declared.definitions.ProgramParts.{ProgramParts as Program}
 use Rattle.bl_format.specs.Image.{Image}
 use Rattle.bl_image.proofs.Prefixes.{one_image}
 use Rattle.bl_lower.specs.Trees.{low_tree}

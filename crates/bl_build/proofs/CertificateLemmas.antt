@@ -1,6 +1,6 @@
 -- A certificate that is read is one; why its bytes are refused.
 use Rattle.std.proofs.Common.{◌≡◌, ℕ, List, Some, None, refl, ap, sym, ◌∙◌}
-use Rattle.bl_cmd.specs.declared.definitions.ProgramParts.{ProgramParts as Program}
+use Rattle.bl_program.specs.declared.definitions.ProgramParts.{ProgramParts as Program}
 use Rattle.bl_witness.specs.Shapes.{certificate_of, ReadsCertificate}
 use Rattle.bl_job.specs.Refusals.{Refusal}
 use Rattle.bl_job.specs.Stages.{IsLawfulStage}

@@ -2,9 +2,9 @@
 use Rattle.std.proofs.Common.{◌≡◌, ℕ, List, Some, refl, ap, sym, ◌∙◌, subst, arith}
 use Rattle.std.specs.Prelude.{Ok, Err, slice_get, Result}
 use Rattle.std.proofs.lemmas.Option.{same_Some}
-use Rattle.bl_cmd.specs.Rules.{IsFirstBroken}
-use Rattle.bl_cmd.specs.declared.definitions.ProgramParts.{ProgramParts as Program}
-use Rattle.bl_cmd.proofs.Faults.{unbroken}
+use Rattle.bl_program.specs.Rules.{IsFirstBroken}
+use Rattle.bl_program.specs.declared.definitions.ProgramParts.{ProgramParts as Program}
+use Rattle.bl_program.proofs.BrokenRules.{unbroken}
 use Rattle.bl_image.proofs.Prefixes.{one_program}
 use Rattle.bl_trace.specs.declared.error.StartError.TheVariants.{Line, Count}
 use Rattle.bl_build.specs.EntryStages.{Entered, Entry, Finds, FindingRefuses, ImagingRefuses, IsImaged, Starts, StartingRefuses, bad_line, broken_rule, few_arguments, finding, ill_formed, imaging, line_is_bad, no_image, starting, too_few, kinds_of, pages_of}

@@ -1,9 +1,9 @@
 -- The files of a hardened program: its image and the text of its certificate pass the stages of `verify`, and verdicts on them say yes.
 use Rattle.std.proofs.Common.{◌≡◌, None, refl}
-use Rattle.bl_cmd.specs.Programs.{IsProgram}
-use Rattle.bl_cmd.specs.Rules.{IsWellFormed}
-use Rattle.bl_cmd.specs.Sites.{is_protected}
-use Rattle.bl_cmd.specs.declared.definitions.ProgramParts.{ProgramParts as Program}
+use Rattle.bl_program.specs.Programs.{IsProgram}
+use Rattle.bl_program.specs.Rules.{IsWellFormed}
+use Rattle.bl_program.specs.Sites.{is_protected}
+use Rattle.bl_program.specs.declared.definitions.ProgramParts.{ProgramParts as Program}
 use Rattle.bl_report.specs.Verdicts.{leak_in}
 use Rattle.bl_transient.specs.Verdicts.{Judges}
 use Rattle.bl_transient.specs.declared.transient.FlowVerdict.{FlowVerdict}

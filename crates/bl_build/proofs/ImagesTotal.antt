@@ -10,9 +10,9 @@ use Rattle.bl_base.specs.declared.quantity.Quantity.TheVariants as quantity
 use Rattle.bl_base.specs.declared.start.Start.{Start}
 use Rattle.bl_base.proofs.Classical.{NotFalse, all_of, some_first}
 use Rattle.bl_text.specs.Lines.{lines_of}
-use Rattle.bl_cmd.specs.Rules.{AtCommand, Breaks, IsFirstBroken, IsWellFormed, Rule4, Rule5, Rule6, Rule7, Rule8, accesses, demands, exports, functions, growths, memories, ranges, targets, variables}
-use Rattle.bl_cmd.specs.declared.command.Command.{Command}
-use Rattle.bl_cmd.specs.declared.definitions.ProgramParts.{ProgramParts as Program}
+use Rattle.bl_program.specs.Rules.{AtCommand, Breaks, IsFirstBroken, IsWellFormed, Rule4, Rule5, Rule6, Rule7, Rule8, accesses, demands, exports, functions, growths, memories, ranges, targets, variables}
+use Rattle.bl_program.specs.declared.command.Command.{Command}
+use Rattle.bl_program.specs.declared.definitions.ProgramParts.{ProgramParts as Program}
 use Rattle.bl_rob.specs.declared.directive.Directive.{Directive}
 use Rattle.bl_trace.specs.StartFiles.{answer_by, answer_of, said}
 use Rattle.bl_trace.specs.Traces.{trace_of}

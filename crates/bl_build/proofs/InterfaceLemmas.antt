@@ -6,8 +6,8 @@ use Rattle.bl_base.specs.declared.quantity.Quantity.{Quantity}
 use Rattle.bl_base.specs.declared.names.Role.{Role}
 use Rattle.bl_base.specs.declared.names.Role.TheVariants.{Client, Library}
 use Rattle.bl_text.specs.Lines.{lines_of}
-use Rattle.bl_cmd.specs.declared.definitions.ProgramParts.{ProgramParts as Program}
-use Rattle.bl_cmd.specs.Sites.{is_protected}
+use Rattle.bl_program.specs.declared.definitions.ProgramParts.{ProgramParts as Program}
+use Rattle.bl_program.specs.Sites.{is_protected}
 use Rattle.bl_format.specs.Image.{Image}
 use Rattle.bl_image.proofs.Prefixes.{one_image}
 use Rattle.bl_transient.specs.Verdicts.{IsFirstBad}

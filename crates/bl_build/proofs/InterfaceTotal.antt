@@ -14,10 +14,10 @@ use Rattle.bl_base.specs.declared.names.Role.{Role}
 use Rattle.bl_base.specs.declared.names.Role.TheVariants.{Client, Library}
 use Rattle.bl_base.proofs.Classical.{all_or_first, some_first}
 use Rattle.bl_text.specs.Lines.{lines_of}
-use Rattle.bl_cmd.specs.Rules.{IsWellFormed}
-use Rattle.bl_cmd.specs.Sites.{is_protected}
-use Rattle.bl_cmd.specs.declared.definitions.ProgramParts.{ProgramParts as Program}
-use Rattle.bl_cmd.proofs.AppendLemmas.{get_right, get_take}
+use Rattle.bl_program.specs.Rules.{IsWellFormed}
+use Rattle.bl_program.specs.Sites.{is_protected}
+use Rattle.bl_program.specs.declared.definitions.ProgramParts.{ProgramParts as Program}
+use Rattle.bl_program.proofs.AppendLemmas.{get_right, get_take}
 use Rattle.bl_graph.specs.Ranges.{AreInRange}
 use Rattle.bl_graph.proofs.RangeLemmas.{in_range}
 use Rattle.bl_transient.specs.Verdicts.{IsBad, IsFirstBad}

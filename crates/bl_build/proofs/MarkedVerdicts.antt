@@ -1,12 +1,12 @@
 -- A program's verdict on constant time is its verdict with other protects too.
 use Rattle.std.proofs.Common.{◌≡◌, inl, inr, ℕ, Bool, List, [], ◌∷◌, refl, sym, ◌∙◌}
 use Rattle.std.specs.Prelude.{◌↔◌, map}
-use Rattle.bl_cmd.specs.Sites.{Writes, Reads, SinkReads}
-use Rattle.bl_cmd.specs.declared.command.Command.{Command}
-use Rattle.bl_cmd.specs.declared.command.Command.TheVariants.{Load, Store}
-use Rattle.bl_cmd.specs.declared.definitions.Demand.{Demand}
-use Rattle.bl_cmd.specs.declared.definitions.Demand.TheVariants as demand
-use Rattle.bl_cmd.specs.declared.definitions.ProgramParts.{ProgramParts as Program}
+use Rattle.bl_program.specs.Sites.{Writes, Reads, SinkReads}
+use Rattle.bl_program.specs.declared.command.Command.{Command}
+use Rattle.bl_program.specs.declared.command.Command.TheVariants.{Load, Store}
+use Rattle.bl_program.specs.declared.definitions.Demand.{Demand}
+use Rattle.bl_program.specs.declared.definitions.Demand.TheVariants as demand
+use Rattle.bl_program.specs.declared.definitions.ProgramParts.{ProgramParts as Program}
 use Rattle.bl_graph.specs.Labels.{KeepsLabelRules, Secret, declared, loaded, moved}
 use Rattle.bl_graph.specs.SecretChains.{Ends, IsChainFrom, IsSecretChain, LeadsLoaded, LeadsToEnd, given, stored, sunk}
 use Rattle.bl_graph.specs.Secrets.{Declares, Demands, GivesPublic, LoadsSecret, Stores, TakesSecret, demanded_by}

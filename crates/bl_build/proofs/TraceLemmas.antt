@@ -2,7 +2,7 @@
 use Rattle.std.proofs.Common.{◌≡◌, ℕ, ◌<◌, ◌≤◌, List, Some, refl, ap, sym, ◌∙◌, subst, arith, length}
 use Rattle.std.specs.Prelude.{Ok, Err, slice_get}
 use Rattle.bl_base.specs.Fits.{Fits}
-use Rattle.bl_cmd.specs.Outcomes.{IsStart}
+use Rattle.bl_program.specs.Outcomes.{IsStart}
 use Rattle.bl_trace.proofs.StartFits.{answered_fits}
 use Rattle.bl_build.specs.EntryStages.{Entry, Finds, Starts, finding, kinds_of, pages_of, starting}
 use Rattle.bl_job.specs.Refusals.{Refusal}

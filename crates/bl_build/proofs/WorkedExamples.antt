@@ -11,8 +11,8 @@ use Rattle.bl_wasm.specs.declared.linked.Tree.{Tree}
 use Rattle.bl_wasm.specs.declared.module.ExportKind.TheVariants as export
 use Rattle.bl_wasm.specs.declared.module.Module.{Module}
 use Rattle.bl_wasm.specs.declared.types.WasmType.TheVariants.{I32}
-use Rattle.bl_cmd.specs.declared.command.Command.TheVariants.{Ret, Trap}
-use Rattle.bl_cmd.specs.declared.command.Operand.TheVariants.{Const}
+use Rattle.bl_program.specs.declared.command.Command.TheVariants.{Ret, Trap}
+use Rattle.bl_program.specs.declared.command.Operand.TheVariants.{Const}
 use Rattle.bl_labels.specs.LabelledPlaces.{unlabelled}
 use Rattle.bl_link.specs.Links.{links, part_of}
 use Rattle.bl_access.specs.Templates.{jump_to, move, out_of, set, variable}

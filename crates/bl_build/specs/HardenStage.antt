@@ -1,8 +1,8 @@
 -- Programs with the least protects: what hardening makes of a program, and what that says.
 use Rattle.std.specs.Prelude.{◌≡◌, ◌↔◌, ℕ, Bool, IsTrue, List}
-use Rattle.bl_cmd.specs.Rules.{IsWellFormed}
-use Rattle.bl_cmd.specs.Sites.{is_protected}
-use Rattle.bl_cmd.specs.declared.definitions.ProgramParts.{ProgramParts as Program}
+use Rattle.bl_program.specs.Rules.{IsWellFormed}
+use Rattle.bl_program.specs.Sites.{is_protected}
+use Rattle.bl_program.specs.declared.definitions.ProgramParts.{ProgramParts as Program}
 use Rattle.bl_format.specs.Image.{Image}
 use Rattle.bl_graph.specs.Certificates.{Certifies}
 use Rattle.bl_graph.specs.declared.certificate.Certificate.{Certificate}

@@ -5,8 +5,8 @@ use Rattle.bl_base.specs.Quantity.{limit_of}
 use Rattle.bl_base.specs.declared.quantity.Quantity.TheVariants as quantity
 use Rattle.bl_base.specs.declared.names.Role.{Role}
 use Rattle.bl_text.specs.Lines.{lines_of}
-use Rattle.bl_cmd.specs.Rules.{IsWellFormed}
-use Rattle.bl_cmd.specs.declared.definitions.ProgramParts.{ProgramParts as Program}
+use Rattle.bl_program.specs.Rules.{IsWellFormed}
+use Rattle.bl_program.specs.declared.definitions.ProgramParts.{ProgramParts as Program}
 use Rattle.bl_graph.specs.Ranges.{AreInRange}
 use Rattle.bl_cut.specs.Least.{LeastUnder}
 use Rattle.bl_cut.specs.Marks.{protected}

@@ -6,8 +6,8 @@ use Rattle.std.specs.List.{All}
 use Rattle.bl_base.specs.declared.quantity.Quantity.{Quantity}
 use Rattle.bl_base.specs.declared.names.Role.{Role}
 use Rattle.bl_base.specs.declared.names.Role.TheVariants.{Client, Library}
-use Rattle.bl_cmd.specs.Sites.{is_protected}
-use Rattle.bl_cmd.specs.declared.definitions.ProgramParts.{ProgramParts as Program}
+use Rattle.bl_program.specs.Sites.{is_protected}
+use Rattle.bl_program.specs.declared.definitions.ProgramParts.{ProgramParts as Program}
 use Rattle.bl_iface.specs.Answers.{StandsAgainst}
 use Rattle.bl_iface.specs.JoinedProgram.{CanJoin, HasSameTypes, joined}
 use Rattle.bl_iface.specs.Roles.{PassesAs}

@@ -4,9 +4,9 @@ use Rattle.std.proofs.Common.{Bor}
 use Rattle.bl_base.specs.Quantity.{limit_of}
 use Rattle.bl_base.specs.declared.quantity.Quantity.TheVariants as quantity
 use Rattle.bl_base.specs.declared.start.Start.{Start}
-use Rattle.bl_cmd.specs.Outcomes.{IsStart}
-use Rattle.bl_cmd.specs.declared.definitions.FunctionDef.{FunctionDef}
-use Rattle.bl_cmd.specs.declared.definitions.ProgramParts.{ProgramParts as Program}
+use Rattle.bl_program.specs.Outcomes.{IsStart}
+use Rattle.bl_program.specs.declared.definitions.FunctionDef.{FunctionDef}
+use Rattle.bl_program.specs.declared.definitions.ProgramParts.{ProgramParts as Program}
 use Rattle.bl_base.specs.declared.number.Pos.{Pos}
 use Rattle.bl_base.specs.declared.names.Role.{Role}
 use Rattle.bl_text.specs.Lines.{lines_of}

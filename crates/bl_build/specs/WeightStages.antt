@@ -7,7 +7,7 @@ use Rattle.bl_base.specs.declared.number.Pos.{Pos}
 use Rattle.bl_base.specs.declared.quantity.Quantity.TheVariants as quantity
 use Rattle.bl_wasm.specs.Linked.{IsLinked}
 use Rattle.bl_wasm.specs.declared.linked.Tree.{Tree}
-use Rattle.bl_cmd.specs.declared.definitions.ProgramParts.{ProgramParts as Program}
+use Rattle.bl_program.specs.declared.definitions.ProgramParts.{ProgramParts as Program}
 use Rattle.bl_format.specs.Image.{Image}
 use Rattle.bl_lower.specs.Trees.{low_tree}
 use Rattle.bl_counts.specs.CountFiles.{count_file_of}

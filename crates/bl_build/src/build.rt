@@ -12,10 +12,10 @@ ghost use Rattle.bl_job.specs.{Stages.chain, WorkAnswers.IsStaged, WorkAnswers.c
 use crate::counts::weighed;
 use crate::loading::load;
 use bl_base::{NoMemory, Quantity, Text};
-use bl_cmd::WellFormed;
 use bl_image::{encode, image_length};
 use bl_job::{Content, WorkError, limit};
 use bl_lower::{LowerError, lower};
+use bl_program::WellFormed;
 use bl_wasm::Linked;
 use std::alloc::Global;
 

@@ -4,9 +4,9 @@ ghost use Rattle.bl_job.specs.WorkAnswers.{IsStaged, IsTold};
 ghost use Rattle.bl_build.specs.StageAnswers.{IsCertificateOf, certified_in, refusal_of_certificate};
 
 use crate::entry::read_image;
-use bl_cmd::WellFormed;
 use bl_graph::Certificate;
 use bl_job::{Reason, WorkError, refused};
+use bl_program::WellFormed;
 use bl_witness::{CertError, from_json};
 use std::alloc::Global;
 

@@ -4,9 +4,9 @@ ghost use Rattle.bl_build.specs.WeightStages.{IsCounted, IsOfProgram, bad_counts
 ghost use Rattle.bl_job.specs.WorkAnswers.{IsStaged, IsTold};
 
 use bl_base::List;
-use bl_cmd::WellFormed;
 use bl_counts::{CountError, CountFile, CountFileError, SiteCount, read_counts, weigh};
 use bl_job::{Reason, WorkError, refused_at};
+use bl_program::WellFormed;
 use std::alloc::Global;
 
 /// What is wrong with a count file: a bad line is told first, then another number of commands, then a position, then the sum.

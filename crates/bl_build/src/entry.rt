@@ -1,15 +1,15 @@
 //! From the bytes of an image to its program, to an exported function of it, and to a start of the function.
 ghost use Rattle.std.specs.Prelude.{◌≡◌, ◌<◌, IfOk, MatchOption, None, Some, length};
-ghost use Rattle.bl_cmd.specs.Outcomes.{IsStart};
+ghost use Rattle.bl_program.specs.Outcomes.{IsStart};
 ghost use Rattle.bl_build.specs.EntryStages.{Finds, broken_rule, finding, function_named, imaging, kinds_of, pages_of, starting};
 ghost use Rattle.bl_job.specs.{Stages.chain, WorkAnswers.IsStaged, WorkAnswers.IsTold};
 ghost use Rattle.bl_build.specs.StageAnswers.{defined_in, entered_in, entry_in, found_in, refusal_of_image};
 
 use crate::start::{no_export, of_start};
 use bl_base::{NoMemory, Start, ValueType};
-use bl_cmd::{ExportDef, FunctionDef, MemoryDef, ProgramParts, WellFormed};
 use bl_image::{ImageError, decode_image};
 use bl_job::{Reason, WorkError, refused, refused_at};
+use bl_program::{ExportDef, FunctionDef, MemoryDef, ProgramParts, WellFormed};
 use bl_trace::read_start;
 use std::alloc::Global;
 

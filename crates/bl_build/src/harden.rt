@@ -9,12 +9,12 @@ ghost use Rattle.bl_job.specs.WorkAnswers.{IsStaged, contents_in};
 
 use crate::build::{compile_program, compile_program_by};
 use bl_base::{NoMemory, Text};
-use bl_cmd::WellFormed;
 use bl_ct::{CtVerdict, constant_time};
 use bl_cut::{least_protects_of, protect};
 use bl_graph::{Certificate, graph};
 use bl_image::encode;
 use bl_job::{Content, WorkError};
+use bl_program::WellFormed;
 use std::alloc::Global;
 
 /// A program with its protects.

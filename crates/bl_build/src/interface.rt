@@ -3,9 +3,9 @@ ghost use Rattle.bl_build.specs.InterfaceStages.{matching, reading, side_of};
 ghost use Rattle.bl_build.specs.StageAnswers.{refusal_of_interface, refusal_of_targets};
 ghost use Rattle.bl_job.specs.WorkAnswers.{IsStaged, IsTold};
 
-use bl_cmd::WellFormed;
 use bl_iface::{Iface, IfaceError, TargetsError, read_iface, targets};
 use bl_job::{Reason, WorkError, refused_at};
+use bl_program::WellFormed;
 use std::alloc::Global;
 
 /// The interface of a file's bytes; Refused exactly where a line is bad, with the first such one. Costs the bytes times the logarithm of how

@@ -9,9 +9,9 @@ use crate::build::{Built, sized};
 use crate::entry::read_image;
 use crate::interface::{match_all, read_interface};
 use bl_base::{NoMemory, Pos, Role};
-use bl_cmd::WellFormed;
 use bl_iface::{Iface, JoinError, UnderVerdict, join, passes_under};
 use bl_job::{Reason, WorkError, limit, refused_at};
+use bl_program::WellFormed;
 use std::alloc::Global;
 
 /// What comes of a client and a library.

@@ -1,7 +1,7 @@
 //! Laws of the stages. Each function is its contract alone.
 ghost use Rattle.std.specs.Prelude.{ℕ, Bool, List as Listed};
 ghost use Rattle.bl_base.specs.declared.names.Role.{Role};
-ghost use Rattle.bl_cmd.specs.{Programs.IsProgram, Rules.IsWellFormed, declared.definitions.ProgramParts.ProgramParts as Program};
+ghost use Rattle.bl_program.specs.{Programs.IsProgram, Rules.IsWellFormed, declared.definitions.ProgramParts.ProgramParts as Program};
 ghost use Rattle.bl_ct.specs.{Verdicts.Judges as JudgesLabels, declared.verdict.CtVerdict.CtVerdict};
 ghost use Rattle.bl_graph.specs.declared.certificate.Certificate.{Certificate};
 ghost use Rattle.bl_transient.specs.{Verdicts.Judges as JudgesFlow, declared.transient.FlowVerdict.FlowVerdict};

@@ -3,7 +3,7 @@ ghost use Rattle.std.specs.Prelude.{◌≡◌, ◌≤◌, IfOk, length, map};
 ghost use Rattle.bl_base.specs.Quantity.{limit_of};
 ghost use Rattle.bl_base.specs.declared.quantity.Quantity.TheVariants as quantity;
 ghost use Rattle.std.specs.FinSet as fin;
-ghost use Rattle.bl_cmd.specs.Sites.{is_protected, weight_of};
+ghost use Rattle.bl_program.specs.Sites.{is_protected, weight_of};
 ghost use Rattle.bl_cut.specs.Marks.{protected};
 ghost use Rattle.bl_format.specs.Image.{Image};
 ghost use Rattle.bl_build.specs.{StageAnswers.parted_in, StageAnswers.refusal_of_choice, LoadStages.AreShort, LoadStages.parts_of};
@@ -15,12 +15,12 @@ ghost use Rattle.bl_text.specs.Names.{AreNamedApart};
 use crate::build::compile_program;
 use crate::interface::{match_all, read_interface};
 use bl_base::{NoMemory, Role, Text};
-use bl_cmd::WellFormed;
 use bl_cut::protect;
 use bl_graph::ranges;
 use bl_iface::{Iface, UnderChoice, UnderError, least_under};
 use bl_image::encode;
 use bl_job::{Content, Reason, WorkError, refused_at};
+use bl_program::WellFormed;
 use std::alloc::Global;
 
 /// A program with its protects on one side of an interface.

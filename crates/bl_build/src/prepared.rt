@@ -6,8 +6,8 @@ ghost use Rattle.bl_build.specs.StageAnswers.{IsPrepared, found_in, prepared_in}
 
 use crate::entry::{Found, definition, find_export, read_entry_start};
 use bl_base::Start;
-use bl_cmd::{FunctionDef, WellFormed};
 use bl_job::WorkError;
+use bl_program::{FunctionDef, WellFormed};
 use std::alloc::Global;
 
 /// The program of an image, a function of it, and a start of the function.

@@ -7,16 +7,16 @@ use Rattle.std.proofs.lemmas.Bool.{false≢true}
 use Rattle.std.proofs.lemmas.Option.{same_Some}
 use Rattle.bl_ops.specs.declared.op.Op.{Op}
 use Rattle.bl_ops.specs.declared.op.Op.TheVariants.{I32Sub, I32GtU, Move, Outside}
-use Rattle.bl_cmd.specs.Layout.{size_of, entry_of, command_at}
-use Rattle.bl_cmd.specs.Rules.{GoesTo, IsGrowth, IsGuarded, IsLocal, IsPassed, IsReadable, IsSum, IsTested, Rule8, assign, branch, variable}
-use Rattle.bl_cmd.specs.Sites.{Among}
+use Rattle.bl_program.specs.Layout.{size_of, entry_of, command_at}
+use Rattle.bl_program.specs.Rules.{GoesTo, IsGrowth, IsGuarded, IsLocal, IsPassed, IsReadable, IsSum, IsTested, Rule8, assign, branch, variable}
+use Rattle.bl_program.specs.Sites.{Among}
 use Rattle.bl_cmd.specs.Tables.{HasTargets, IsApart, IsGrownBy, IsPlace, IsTarget, IsTestedBy, ReadsEach}
-use Rattle.bl_cmd.specs.declared.command.Command.{Command}
-use Rattle.bl_cmd.specs.declared.command.Command.TheVariants.{Set, Load, Test, Jump}
-use Rattle.bl_cmd.specs.declared.command.Mark.{Mark}
-use Rattle.bl_cmd.specs.declared.command.Operand.{Operand}
-use Rattle.bl_cmd.specs.declared.command.Operand.TheVariants.{Const}
-use Rattle.bl_cmd.specs.declared.definitions.MemoryDef.{MemoryDef}
+use Rattle.bl_program.specs.declared.command.Command.{Command}
+use Rattle.bl_program.specs.declared.command.Command.TheVariants.{Set, Load, Test, Jump}
+use Rattle.bl_program.specs.declared.command.Mark.{Mark}
+use Rattle.bl_program.specs.declared.command.Operand.{Operand}
+use Rattle.bl_program.specs.declared.command.Operand.TheVariants.{Const}
+use Rattle.bl_program.specs.declared.definitions.MemoryDef.{MemoryDef}
 use Rattle.bl_cmd.specs.declared.place.Place.{Place}
 
 -- each operand is readable where each variable among them is

@@ -3,11 +3,11 @@ use Rattle.std.proofs.Common.{◌≡◌, ◌⊎◌, ◌↔◌, inl, inr, ℕ, ze
 use Rattle.std.specs.Prelude.{unwrap_or}
 use Rattle.std.proofs.lemmas.Bool.{cases_lt}
 use Rattle.std.proofs.lemmas.Option.{none-some, slice_get_within, slice_get-get_or, same_Some}
-use Rattle.bl_cmd.proofs.TableLemmas.{and_some, some_and}
-use Rattle.bl_cmd.specs.Rules.{GoesTo}
+use Rattle.bl_base.proofs.OptionLemmas.{some_with, with_some}
+use Rattle.bl_program.specs.Rules.{GoesTo}
 use Rattle.bl_cmd.specs.Entrants.{Goes, Spans, AreNoted, AreEntrants, joined, with_entrant, with_entrants}
-use Rattle.bl_cmd.specs.declared.command.Command.{Command}
-use Rattle.bl_cmd.specs.declared.command.Command.TheVariants.{Set, Load, Test, Jump}
+use Rattle.bl_program.specs.declared.command.Command.{Command}
+use Rattle.bl_program.specs.declared.command.Command.TheVariants.{Set, Load, Test, Jump}
 use Rattle.bl_cmd.specs.declared.tables.Entrants.{Entrants}
 
 -- what is known of an equal relation
@@ -87,32 +87,19 @@ module _ (G : ℕ → ℕ → Type 0) (from to : ℕ) where
 abbrev pub Before : List Command → ℕ → ℕ → ℕ → Type 0
 Before commands count from to = (from < count) × Goes commands from to
 
--- nobody at first
-pub noted_none : (commands : List Command) (count : ℕ) → AreNoted (Before commands 0) (replicate count None)
-noted_none commands count to entry found = by count to found
-  where
-    by : (count to : ℕ) → slice_get (replicate count None) to ≡ Some entry → Spans (λ from. Before commands 0 from to) entry
-    by zero to e = absurd (none-some entry e)
-    by (suc count) zero e = subst (Spans (λ from. Before commands 0 from 0)) (same_Some None entry e) (λ from goes. omega (arith, goes.0))
-    by (suc count) (suc to) e = weaker entry (by count to e)
-      where
-        weaker : (entry : Option Entrants) → Spans (λ from. Before commands 0 from to) entry → Spans (λ from. Before commands 0 from (suc to)) entry
-        weaker None spans = λ from goes. omega (arith, goes.0)
-        weaker (Some e) spans = absurd (omega (arith, spans.0.0))
-
 module _ (commands : List Command) (i : ℕ) (command : Command) (stands : slice_get commands i ≡ Some command) where
   -- those of one command more
   goes_more : (from to : ℕ) → (Before commands i from to ⊎ ((from ≡ i) × GoesTo command to)) ↔ Before commands (i + 1) from to
   goes_more from to = (
     λ h. elim h as (λ _. Before commands (i + 1) from to) [
       | inl old ↦ (omega (arith, old.0), old.1)
-      | inr new ↦ (omega (arith, new.0), subst (λ (k : ℕ). Goes commands k to) (sym new.0) (some_and (λ c. GoesTo c to) _ command stands new.1))
+      | inr new ↦ (omega (arith, new.0), subst (λ (k : ℕ). Goes commands k to) (sym new.0) (with_some _ (λ c. GoesTo c to) command stands new.1))
     ],
     λ h. elim (cases_lt from i) as (λ _. Before commands i from to ⊎ ((from ≡ i) × GoesTo command to)) [
       | inl less ↦ inl (less, h.1)
       | inr more ↦
           let same : from ≡ i = omega (arith, h.0) in
-          let goes = and_some (λ c. GoesTo c to) _ (subst (λ (k : ℕ). Goes commands k to) same h.1) in
+          let goes = some_with _ (λ c. GoesTo c to) (subst (λ (k : ℕ). Goes commands k to) same h.1) in
           inr (same, subst (λ c. GoesTo c to) (same_Some goes.0 command (sym goes.1 ∙ stands)) goes.2)
     ],
   )
@@ -171,5 +158,5 @@ module _ (commands : List Command) (i : ℕ) where
 pub entered_all : (commands : List Command) (count : ℕ) (entrants : List (Option Entrants)) → length commands ≤ count → length entrants ≡ length commands → AreNoted (Before commands count) entrants → AreEntrants commands entrants
 entered_all commands count entrants le len are = record {
   len = len;
-  each = noted_same (Before commands count) (Goes commands) (λ from to. (λ h. h.1, λ h. let got = and_some (λ c. GoesTo c to) _ h in let lt = slice_get_within commands from got.0 got.1 in (omega arith, h))) entrants are;
+  each = noted_same (Before commands count) (Goes commands) (λ from to. (λ h. h.1, λ h. let got = some_with _ (λ c. GoesTo c to) h in let lt = slice_get_within commands from got.0 got.1 in (omega arith, h))) entrants are;
 }

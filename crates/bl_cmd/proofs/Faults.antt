@@ -2,15 +2,15 @@
 use Rattle.std.proofs.Common.{◌≡◌, ◌⊎◌, inl, inr, ℕ, suc, ◌+◌, ◌<◌, ◌≤◌, length, Option, Some, None, MatchOption, refl, sym, ap, ◌∙◌, subst, arith}
 use Rattle.std.proofs.lemmas.Bool.{cases_lt}
 use Rattle.std.proofs.lemmas.Option.{same_Some}
-use Rattle.bl_cmd.specs.Layout.{entry_of, command_at, Holds}
-use Rattle.bl_cmd.specs.Programs.{IsProgram}
-use Rattle.bl_cmd.specs.Rules.{Rule4, Rule5, Rule6, Rule7, Breaks, memories, functions, exports, variables, targets, ranges, accesses, growths, demands, IsFirstBroken, IsWellFormed}
+use Rattle.bl_program.specs.Layout.{entry_of, command_at, Holds}
+use Rattle.bl_program.specs.Programs.{IsProgram}
+use Rattle.bl_program.specs.Rules.{Rule4, Rule5, Rule6, Rule7, Breaks, memories, functions, exports, variables, targets, ranges, accesses, growths, demands, IsFirstBroken, IsWellFormed}
 use Rattle.bl_cmd.specs.Verdicts as verdict
 use Rattle.bl_cmd.specs.Verdicts.{KeepsParts, BreaksParts, KeepsRules, BreaksRule, KeepsBelow, IsFaultIn, IsFault}
-use Rattle.bl_cmd.specs.declared.command.Command.{Command}
+use Rattle.bl_program.specs.declared.command.Command.{Command}
 use Rattle.bl_cmd.specs.declared.verdict.Fault.{Fault}
-use Rattle.bl_cmd.specs.declared.definitions.ProgramParts.{ProgramParts as Program}
-use Rattle.bl_cmd.proofs.Layouts.{holds_apart, holds_within, sum_up}
+use Rattle.bl_program.specs.declared.definitions.ProgramParts.{ProgramParts as Program}
+use Rattle.bl_program.proofs.Layouts.{holds_apart, holds_within, sum_up}
 
 module _ (program : Program) where
   -- ---- along a function
@@ -48,18 +48,6 @@ module _ (program : Program) where
     where
       at : (position function : ℕ) (command : Command) → Holds program function position → command_at program position ≡ Some command → KeepsRules program function position command
       at position function command holds stands = keeps function holds.exists position command holds (holds_within program function position facts holds) stands
-
-  -- nothing is broken
-  pub unbroken : (rule position : ℕ) → IsWellFormed program → Breaks rule position program → ⊥
-  unbroken rule position well (memories e f bad) = bad well.rule1
-  unbroken rule position well (functions e f bad) = bad well.rule2
-  unbroken rule position well (exports e f bad) = bad well.rule3
-  unbroken rule position well (variables e bad) = bad (well.rule4 position)
-  unbroken rule position well (targets e bad) = bad (well.rule5 position)
-  unbroken rule position well (ranges e bad) = bad (well.rule6 position)
-  unbroken rule position well (accesses e bad) = bad (well.rule7 position)
-  unbroken rule position well (growths e bad) = bad (well.rule8 position)
-  unbroken rule position well (demands e f bad) = bad well.rule9
 
   -- ---- a rule on the whole program
 

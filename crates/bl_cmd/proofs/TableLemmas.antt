@@ -2,64 +2,25 @@
 use Rattle.std.proofs.Common.{◌≡◌, ◌⊎◌, ◌↔◌, inl, inr, ℕ, zero, suc, ◌+◌, ◌-◌, ◌<◌, ◌≤◌, List, [], ◌∷◌, ◌++◌, length, get_or, Option, Some, None, slice_get, true, false, Bool, IsTrue, MatchOption, refl, sym, ap, ◌∙◌, subst, arith}
 use Rattle.std.specs.Prelude.{IsSomeAnd, is_some, not}
 use Rattle.bl_base.specs.declared.number.Var.{Var}
-use Rattle.bl_cmd.specs.declared.command.Operand.{Operand}
-use Rattle.bl_cmd.specs.declared.command.Operand.TheVariants as named
+use Rattle.bl_program.specs.declared.command.Operand.{Operand}
+use Rattle.bl_program.specs.declared.command.Operand.TheVariants as named
 use Rattle.std.proofs.lemmas.Bool.{cases_lt, false≢true}
 use Rattle.std.proofs.lemmas.Option.{none-some, slice_get-get_or}
-use Rattle.bl_cmd.specs.Layout.{first_of, entry_of, Holds}
-use Rattle.bl_cmd.specs.Rules.{Rule2, GoesTo, IsOwn, IsReadable, IsResult, IsPassed, IsGuarded}
+use Rattle.bl_base.proofs.OptionLemmas.{some_with, with_some}
+use Rattle.bl_program.specs.Layout.{first_of, entry_of, AreValues, Holds}
+use Rattle.bl_program.specs.Rules.{Rule2, GoesTo, IsOwn, IsReadable, IsResult, IsPassed, IsGuarded}
 use Rattle.bl_cmd.specs.Entrants.{Goes, Spans}
-use Rattle.bl_cmd.specs.Tables.{AreValues, AreTables, IsPlace, ReadsOne}
-use Rattle.bl_cmd.specs.declared.definitions.ProgramParts.{ProgramParts as Program}
+use Rattle.bl_cmd.specs.Tables.{AreTables, IsPlace, ReadsOne}
+use Rattle.bl_program.specs.declared.definitions.ProgramParts.{ProgramParts as Program}
 use Rattle.bl_cmd.specs.declared.tables.Entrants.{Entrants}
 use Rattle.bl_cmd.specs.declared.tables.Tables.{Tables}
 use Rattle.bl_cmd.specs.declared.place.Place.{Place}
-use Rattle.bl_cmd.proofs.Layouts.{own_exists, own_apart, holds_within, no_entry, result_own, sum_up}
-
--- ---- lists of values
-
--- at the end of a list
-get_front : (xs : List ℕ) (y i : ℕ) → i < length xs → get_or (xs ++ y ∷ []) i 0 ≡ get_or xs i 0
-get_front [] y i lt = absurd (omega arith)
-get_front (x ∷ xs) y zero lt = refl
-get_front (x ∷ xs) y (suc i) lt = get_front xs y i (omega arith)
-
-get_end : (xs : List ℕ) (y : ℕ) → get_or (xs ++ y ∷ []) (length xs) 0 ≡ y
-get_end [] y = refl
-get_end (x ∷ xs) y = get_end xs y
-
-length_end : (xs : List ℕ) (y : ℕ) → length (xs ++ y ∷ []) ≡ suc (length xs)
-length_end [] y = refl
-length_end (x ∷ xs) y = ap suc (length_end xs y)
-
--- one value more
-pub values_more : (f : ℕ → ℕ) (count y : ℕ) (xs : List ℕ) → AreValues f count xs → y ≡ f (suc count) → AreValues f (suc count) (xs ++ y ∷ [])
-values_more f count y xs values e = record {
-  len = length_end xs y ∙ ap suc values.len;
-  each = λ i le. elim (cases_lt i (suc count)) as (λ _. get_or (xs ++ y ∷ []) i 0 ≡ f i) [
-    | inl less ↦ let here = values.len in get_front xs y i (omega arith) ∙ values.each i (omega arith)
-    | inr more ↦ let here = values.len in let last : i ≡ length xs = omega arith in let same : i ≡ suc count = omega arith in subst (λ (k : ℕ). get_or (xs ++ y ∷ []) k 0 ≡ f i) (sym last) (get_end xs y ∙ e ∙ ap f (sym same))
-  ];
-}
-
-pub values_next : (f : ℕ → ℕ) (count y : ℕ) (xs new : List ℕ) → new ≡ xs ++ y ∷ [] → AreValues f count xs → y ≡ f (count + 1) → AreValues f (count + 1) new
-values_next f count y xs new is values e =
-    let next : count + 1 ≡ suc count = omega arith in
-    subst (AreValues f (count + 1)) (sym is) (subst (λ (k : ℕ). AreValues f k (xs ++ y ∷ [])) (sym next) (values_more f count y xs values (e ∙ ap f next)))
+use Rattle.bl_program.proofs.Layouts.{own_exists, own_apart, holds_within, no_entry, result_own, sum_up}
 
 -- ---- what stands at a place of a list
 
 pub reads_at : {X : Type 0} (xs ys : List X) (i : ℕ) (d : X) → ys ≡ xs → i < length xs → slice_get xs i ≡ Some (get_or ys i d)
 reads_at xs ys i d e lt = subst (λ l. slice_get xs i ≡ Some (get_or l i d)) (sym e) (slice_get-get_or xs i d lt)
-
--- ---- options that hold
-
-pub and_some : {X : Type 0} (P : X → Type 0) (o : Option X) → IsSomeAnd o P → (x : X) × (o ≡ Some x) × P x
-and_some P None h = absurd h
-and_some P (Some x) h = (x, refl, h)
-
-pub some_and : {X : Type 0} (P : X → Type 0) (o : Option X) (x : X) → o ≡ Some x → P x → IsSomeAnd o P
-some_and P o x e h = subst (λ o. IsSomeAnd o P) (sym e) h
 
 -- ---- variables
 
@@ -128,14 +89,14 @@ passed_is program tables function position back entry good holds behind found = 
   λ none. record {
     entries = λ other exists. no_entry program function (position - back) other (back_holds program function position back holds behind) (omega arith);
     others = λ from command at_from goes.
-        subst (Spans (λ from. Goes program.commands from (position - back))) none (good.entrants.each (position - back) entry found) from (some_and (λ c. GoesTo c (position - back)) _ command at_from goes);
+        subst (Spans (λ from. Goes program.commands from (position - back))) none (good.entrants.each (position - back) entry found) from (with_some _ (λ c. GoesTo c (position - back)) command at_from goes);
   },
   λ passed. by passed entry (good.entrants.each (position - back) entry found),
 )
   where
     by : IsPassed program (position - back) → (entry : Option Entrants) → Spans (λ from. Goes program.commands from (position - back)) entry → entry ≡ None
     by passed None spans = refl
-    by passed (Some e) spans = let goes = and_some (λ c. GoesTo c (position - back)) _ spans.0 in absurd (passed.others e.least goes.0 goes.1 goes.2)
+    by passed (Some e) spans = let goes = some_with _ (λ c. GoesTo c (position - back)) spans.0 in absurd (passed.others e.least goes.0 goes.1 goes.2)
 
 -- only the command before goes there
 pub guarded_is : (program : Program) (tables : Tables) (function position back : ℕ) (entry : Entrants) → AreTables program tables → Holds program function position
@@ -146,13 +107,13 @@ guarded_is program tables function position back entry good holds behind found =
       λ both. record {
         entries = λ other exists. no_entry program function (position - back) other (back_holds program function position back holds behind) (omega arith);
         others = λ from command at_from goes.
-            let between = spans.2 from (some_and (λ c. GoesTo c (position - back)) _ command at_from goes) in
+            let between = spans.2 from (with_some _ (λ c. GoesTo c (position - back)) command at_from goes) in
             let low = both.0 in let high = both.1 in
             omega (arith, between.0, between.1);
       },
       λ guarded.
-          let one = and_some (λ c. GoesTo c (position - back)) _ spans.0 in
-          let other = and_some (λ c. GoesTo c (position - back)) _ spans.1 in
+          let one = some_with _ (λ c. GoesTo c (position - back)) spans.0 in
+          let other = some_with _ (λ c. GoesTo c (position - back)) spans.1 in
           (guarded.others entry.least one.0 one.1 one.2, guarded.others entry.greatest other.0 other.1 other.2),
     )
 
@@ -160,7 +121,7 @@ pub unentered_is : (program : Program) (tables : Tables) (function position back
     → entry_of program function + back < position → slice_get tables.entrants (position - back) ≡ Some None → IsGuarded program before (position - back)
 unentered_is program tables function position back before good holds behind found = record {
   entries = λ other exists. no_entry program function (position - back) other (back_holds program function position back holds behind) (omega arith);
-  others = λ from command at_from goes. absurd (good.entrants.each (position - back) None found from (some_and (λ c. GoesTo c (position - back)) _ command at_from goes));
+  others = λ from command at_from goes. absurd (good.entrants.each (position - back) None found from (with_some _ (λ c. GoesTo c (position - back)) command at_from goes));
 }
 
 -- ---- tests

@@ -1,8 +1,8 @@
 -- Who goes to a position by naming it.
 use Rattle.std.specs.Prelude.{◌≡◌, ◌≤◌, ℕ, IsSomeAnd, List, length, set, Option, Some, None, slice_get, unwrap_or}
-use Rattle.bl_cmd.specs.Rules.{GoesTo}
-use Rattle.bl_cmd.specs.declared.command.Command.{Command}
-use Rattle.bl_cmd.specs.declared.command.Command.TheVariants.{Test, Jump}
+use Rattle.bl_program.specs.Rules.{GoesTo}
+use Rattle.bl_program.specs.declared.command.Command.{Command}
+use Rattle.bl_program.specs.declared.command.Command.TheVariants.{Test, Jump}
 use Rattle.bl_cmd.specs.declared.tables.Entrants.{Entrants}
 
 -- the command at a position goes to another one

@@ -1,10 +1,3 @@
 pub mod Entrants
-pub mod Layout
-pub mod Outcomes
-pub mod Programs
-pub mod Rules
-pub mod Sites
-pub mod Steps
 pub mod Tables
 pub mod Verdicts
-pub mod Widths

@@ -1,21 +1,16 @@
 -- The tables with which a program's commands are checked.
-use Rattle.bl_cmd.specs.Sites.{Names}
+use Rattle.bl_program.specs.Sites.{Names}
 use Rattle.std.specs.Prelude.{◌≡◌, ◌≢◌, ◌⊎◌, ◌<◌, ◌≤◌, ℕ, suc, ◌-◌, List, [], ◌∷◌, length, slice_index}
-use Rattle.bl_cmd.specs.Layout.{first_of, entry_of, Holds}
-use Rattle.bl_cmd.specs.Programs.{IsProgram}
-use Rattle.bl_cmd.specs.Rules.{Rule2, IsLocal, IsReadable, IsPassed, IsGuarded, variable}
-use Rattle.bl_cmd.specs.declared.command.Command.{Command}
-use Rattle.bl_cmd.specs.declared.command.Command.TheVariants.{Test, Jump}
-use Rattle.bl_cmd.specs.declared.command.Operand.{Operand}
-use Rattle.bl_cmd.specs.declared.definitions.ProgramParts.{ProgramParts as Program}
+use Rattle.bl_program.specs.Layout.{first_of, entry_of, AreValues, Holds}
+use Rattle.bl_program.specs.Programs.{IsProgram}
+use Rattle.bl_program.specs.Rules.{Rule2, IsLocal, IsReadable, IsPassed, IsGuarded, variable}
+use Rattle.bl_program.specs.declared.command.Command.{Command}
+use Rattle.bl_program.specs.declared.command.Command.TheVariants.{Test, Jump}
+use Rattle.bl_program.specs.declared.command.Operand.{Operand}
+use Rattle.bl_program.specs.declared.definitions.ProgramParts.{ProgramParts as Program}
 use Rattle.bl_cmd.specs.Entrants.{AreEntrants}
 use Rattle.bl_cmd.specs.declared.tables.Tables.{Tables}
 use Rattle.bl_cmd.specs.declared.place.Place.{Place}
-
--- the numbers from the front to the end of a list are the values of a function
-pub record AreValues (f : ℕ → ℕ) (count : ℕ) (numbers : List ℕ) : Type 0 where
-  pub len : length numbers ≡ suc count
-  pub each : (i : ℕ) → i ≤ count → slice_index numbers i ≡ f i
 
 -- the tables are those of the program, which keeps rule 2
 pub record AreTables (program : Program) (tables : Tables) : Type 0 where

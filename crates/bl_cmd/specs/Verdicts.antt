@@ -1,13 +1,13 @@
 -- What `check` and its parts answer.
 use Rattle.std.specs.Prelude.{◌≡◌, ◌<◌, ℕ, List, length, Option, Some, None, slice_get}
-use Rattle.bl_cmd.specs.Layout.{command_at, Holds}
-use Rattle.bl_cmd.specs.Rules.{Rule1, Rule2, Rule3, Rule4, Rule5, Rule6, Rule7, Rule8, Rule9, IsFirstBroken, IsWellFormed}
-use Rattle.bl_cmd.specs.declared.command.Command.{Command}
+use Rattle.bl_program.specs.Layout.{command_at, Holds}
+use Rattle.bl_program.specs.Rules.{Rule1, Rule2, Rule3, Rule4, Rule5, Rule6, Rule7, Rule8, Rule9, IsFirstBroken, IsWellFormed}
+use Rattle.bl_program.specs.declared.command.Command.{Command}
 use Rattle.bl_cmd.specs.declared.verdict.CheckError.{CheckError}
 use Rattle.bl_cmd.specs.declared.verdict.CheckError.TheVariants as error
 use Rattle.bl_cmd.specs.declared.verdict.Fault.{Fault}
-use Rattle.bl_cmd.specs.declared.definitions.ExportDef.{ExportDef}
-use Rattle.bl_cmd.specs.declared.definitions.ProgramParts.{ProgramParts as Program}
+use Rattle.bl_program.specs.declared.definitions.ExportDef.{ExportDef}
+use Rattle.bl_program.specs.declared.definitions.ProgramParts.{ProgramParts as Program}
 
 -- a fault is the first one; want of memory says nothing
 abbrev pub IsReason : Program → CheckError → Type 0

@@ -3,16 +3,16 @@ ghost use Rattle.std.specs.Prelude.{◌≡◌, ◌≤◌, ◌<◌, ◌*◌, ◌^
 ghost use Rattle.std.specs.List.{All, AllPairs};
 ghost use Rattle.bl_base.specs.{Fits.ArgumentFits, Quantity.limit_of};
 ghost use Rattle.bl_base.specs.declared.quantity.Quantity.TheVariants as quantity;
-ghost use Rattle.bl_cmd.specs.Layout.{first_of, sum_before};
-ghost use Rattle.bl_cmd.specs.Rules.{IsDemand, IsFunction, IsMemory, IsRow, IsWeight, Precedes, Rule2, Rule3, Rule9};
-ghost use Rattle.bl_cmd.specs.declared.definitions.Demand.TheVariants as demand_is;
+ghost use Rattle.bl_program.specs.Layout.{first_of, sum_before};
+ghost use Rattle.bl_program.specs.Rules.{IsDemand, IsFunction, IsMemory, IsRow, IsWeight, Precedes, Rule2, Rule3, Rule9};
+ghost use Rattle.bl_program.specs.declared.definitions.Demand.TheVariants as demand_is;
 ghost use Rattle.bl_cmd.specs.Verdicts.{AreDistinct, BreaksParts, KeepsParts};
 
-use crate::definitions::{
-    Demand, ExportDef, FunctionDef, GlobalDef, MemRow, MemoryDef, ProgramParts, SiteWeight,
-};
-use crate::weights::{has_mark, is_total_small};
 use bl_base::{Label, NoMemory, Quantity, argument_fits};
+use bl_program::{
+    Demand, ExportDef, FunctionDef, GlobalDef, MemRow, MemoryDef, ProgramParts, SiteWeight,
+    is_total_small, mark_at,
+};
 use std::alloc::Global;
 use std::collections::BTreeSet;
 
@@ -315,5 +315,5 @@ fn are_weights(parts: &ProgramParts) -> bool
 fn is_weight(parts: &ProgramParts, entry: SiteWeight) -> bool
     ensures { IsTrue result ↔ IsWeight parts.now entry }
 {
-    has_mark(parts, entry.at) && 1 <= entry.weight
+    mark_at(parts, entry.at.0 as usize).is_some() && 1 <= entry.weight
 }

@@ -1,14 +1,12 @@
 //! A command's place in its program, and what is asked of the numbers that it names there.
 ghost use Rattle.std.specs.Prelude.{◌≡◌, ◌≤◌, ◌<◌, ◌+◌, ◌-◌, ◌↔◌, ◌⊎◌, ℕ, IsTrue, MatchOption, Some, length, option_map, suc, slice_get, slice_index};
-ghost use Rattle.bl_cmd.specs.Layout.{entry_of, first_of, params_of, results_of, size_of, statics, Holds};
-ghost use Rattle.bl_cmd.specs.Rules.{IsGuarded, IsLocal, IsOwn, IsPassed, IsReadable, IsResult, IsWritable, variable};
+ghost use Rattle.bl_program.specs.Layout.{entry_of, first_of, params_of, results_of, size_of, statics, Holds};
+ghost use Rattle.bl_program.specs.Rules.{IsGuarded, IsLocal, IsOwn, IsPassed, IsReadable, IsResult, IsWritable, variable};
 ghost use Rattle.bl_cmd.specs.Tables.{IsPlace, IsTarget, ReadsOne};
 
-use crate::command::{Command, Operand};
-use crate::definitions::{FunctionDef, ProgramParts};
-use crate::program::FIRST_ENTRY;
 use crate::tables::{Entrants, Tables};
 use bl_base::{Pos, Var};
+use bl_program::{Command, FIRST_ENTRY, FunctionDef, Operand, ProgramParts, owner_among};
 
 /// A position of a function of a program.
 #[derive(Clone, Copy)]
@@ -274,27 +272,4 @@ fn is_result(function: &FunctionDef, index: usize) -> bool
 {
     let params = function.params.len();
     params <= index && index - params < function.results.len()
-}
-
-/// Of numbers that begin ranges, where the last one ends the last range: the number of a range that holds x; None where none
-/// does. A binary search.
-pub fn owner_among(firsts: &[u32], x: u32) -> Option<usize>
-    requires { 0 < length firsts.now }
-    ensures { MatchOption result ((x < slice_index firsts.now 0) ⊎ (slice_index firsts.now (length firsts.now - 1) ≤ x))
-        (λ owner. (owner + 1 < length firsts.now) × (slice_index firsts.now owner ≤ x) × (x < slice_index firsts.now (owner + 1))) }
-{
-    let mut low = 0;
-    let mut high = firsts.len() - 1;
-    if x < firsts[low] || firsts[high] <= x {
-        return None;
-    }
-    while high - low > 1 {
-        let middle = low + (high - low) / 2;
-        if firsts[middle] <= x {
-            low = middle;
-        } else {
-            high = middle;
-        }
-    }
-    Some(low)
 }

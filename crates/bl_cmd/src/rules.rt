@@ -1,14 +1,15 @@
 //! The rules on one command: which variables it may name, where it may go, whether the numbers that it names are in range, and
 //! what has to stand before an access and before a write of a size.
 ghost use Rattle.std.specs.Prelude.{◌≡◌, ◌≢◌, ◌<◌, ◌≤◌, ◌+◌, ◌↔◌, ℕ, suc, IfSome, IsTrue, MatchOption, Some, length};
-ghost use Rattle.bl_cmd.specs.{Layout.entry_of, Sites.Among, Verdicts.BreaksRule, Verdicts.KeepsRules, declared.command.Mark.Mark};
-ghost use Rattle.bl_cmd.specs.Rules.{GoesTo, IsGrowth, IsReadable, IsSum, IsTested, IsWritable, Leaves, Rule4, Rule5, Rule6, Rule7, Rule8, assign, assigned_by, branch, operands_of};
+ghost use Rattle.bl_program.specs.{Layout.entry_of, Sites.Among, declared.command.Mark.Mark};
+ghost use Rattle.bl_cmd.specs.Verdicts.{BreaksRule, KeepsRules};
+ghost use Rattle.bl_program.specs.Rules.{GoesTo, IsGrowth, IsReadable, IsSum, IsTested, IsWritable, Leaves, Rule4, Rule5, Rule6, Rule7, Rule8, assign, assigned_by, branch, operands_of};
 ghost use Rattle.bl_cmd.specs.Tables.{HasTargets, IsApart, IsGrownAlone, IsGrownBy, IsPlace, IsTarget, IsTestedBy, ReadsEach};
 
-use crate::command::{Command, Mark, Operand};
 use crate::place::Place;
 use bl_base::{Pos, Var};
 use bl_ops::Op;
+use bl_program::{Command, Mark, Operand};
 
 /// The number of the first of rules 4 to 8 that the command at the place breaks; None where it keeps them.
 pub(crate) fn broken_rule(place: &Place, command: Command) -> Option<u8>

@@ -1,12 +1,11 @@
 //! The tables with which a program's commands are checked.
 ghost use Rattle.std.specs.Prelude.{◌≡◌, ◌<◌, ◌^◌, IfOk, None, length, replicate};
-ghost use Rattle.bl_cmd.specs.{Layout.first_of, Layout.entry_of, Programs.IsProgram, Rules.Rule2, Tables.AreTables, Tables.AreValues};
+ghost use Rattle.bl_program.specs.{Layout.AreValues, Layout.entry_of, Programs.IsProgram, Rules.Rule2};
+ghost use Rattle.bl_cmd.specs.Tables.{AreTables};
 ghost use Rattle.bl_cmd.specs.Entrants.{AreEntrants, joined, with_entrant, with_entrants};
 
-use crate::command::Command;
-use crate::definitions::ProgramParts;
-use crate::program::FIRST_ENTRY;
 use bl_base::{List, NoMemory, Pos};
+use bl_program::{Command, FIRST_ENTRY, ProgramParts, firsts_of};
 use std::alloc::Global;
 
 /// Those commands that go to a position that they name: of their positions the least and the greatest.
@@ -45,21 +44,6 @@ impl Tables {
             entrants,
         })
     }
-}
-
-/// The first variable of each function, and the number of all variables.
-pub fn firsts_of(alloc: Global, parts: &ProgramParts) -> Result<List<u32>, NoMemory>
-    requires { Rule2 parts.now }
-    ensures { IfOk result (λ firsts. AreValues (first_of parts.now) (length parts.now.functions) firsts) }
-{
-    let mut firsts = List::new(alloc);
-    let mut first = (parts.globals.len() + parts.memories.len()) as u32;
-    firsts.push(first)?;
-    for function in parts.functions.as_slice() {
-        first += function.vars;
-        firsts.push(first)?;
-    }
-    Ok(firsts)
 }
 
 /// The entry of each function, and the number of all commands.

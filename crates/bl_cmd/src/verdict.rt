@@ -1,16 +1,15 @@
 //! Whether a program is well-formed, and which rule it breaks first.
 ghost use Rattle.std.specs.Prelude.{◌≡◌, ◌≤◌, ◌<◌, ℕ, IfOk, IfErr, MatchOption, length};
-ghost use Rattle.bl_cmd.specs.{Programs.IsProgram, Rules.IsWellFormed, Tables.AreTables};
+ghost use Rattle.bl_program.specs.{Programs.IsProgram, Rules.IsWellFormed};
+ghost use Rattle.bl_cmd.specs.Tables.{AreTables};
 ghost use Rattle.bl_cmd.specs.Verdicts.{IsFault, IsFaultIn, IsReason, IsVerdict, KeepsBelow, KeepsParts};
 
-use crate::definitions::ProgramParts;
 use crate::parts::broken_part;
 use crate::place::Place;
-use crate::program::Program;
 use crate::rules::broken_rule;
 use crate::tables::Tables;
-use crate::wellformed::WellFormed;
 use bl_base::{NoMemory, Pos};
+use bl_program::{Program, ProgramParts, WellFormed};
 use std::alloc::Global;
 use thiserror::Error;
 

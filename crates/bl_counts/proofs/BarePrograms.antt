@@ -6,14 +6,14 @@ use Rattle.std.proofs.lemmas.List.{length-map}
 use Rattle.std.proofs.lemmas.Option.{slice_get-map}
 use Rattle.bl_base.specs.Runs.{Next, Outcome}
 use Rattle.bl_base.specs.declared.start.Start.{Start}
-use Rattle.bl_cmd.specs.Layout.{command_at}
-use Rattle.bl_cmd.specs.Outcomes.{opening, plain}
-use Rattle.bl_cmd.specs.Sites.{mark_of}
-use Rattle.bl_cmd.specs.Steps.{Plain}
-use Rattle.bl_cmd.specs.declared.command.Mark.{Mark}
-use Rattle.bl_cmd.specs.declared.command.Command.{Command}
-use Rattle.bl_cmd.specs.declared.command.Command.TheVariants.{Set}
-use Rattle.bl_cmd.specs.declared.definitions.ProgramParts.{ProgramParts as Program}
+use Rattle.bl_program.specs.Layout.{command_at}
+use Rattle.bl_program.specs.Outcomes.{opening, plain}
+use Rattle.bl_program.specs.Sites.{mark_of}
+use Rattle.bl_program.specs.Steps.{Plain}
+use Rattle.bl_program.specs.declared.command.Mark.{Mark}
+use Rattle.bl_program.specs.declared.command.Command.{Command}
+use Rattle.bl_program.specs.declared.command.Command.TheVariants.{Set}
+use Rattle.bl_program.specs.declared.definitions.ProgramParts.{ProgramParts as Program}
 use Rattle.bl_cut.proofs.Remarked.{remarked, run_back, run_same, steps_same, unchanged}
 use Rattle.bl_cut.specs.Marks.{marked, marked_from, protected}
 use Rattle.bl_counts.specs.RunCounts.{bare, bare_command, counts_from, counts_of, executed, is_site, no_mark, stepped, times, weighed, with_count}

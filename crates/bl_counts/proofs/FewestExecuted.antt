@@ -5,11 +5,11 @@ use Rattle.std.proofs.lemmas.Bool.{ne_eqb, eq-eqb, cases_lt, false≢true}
 use Rattle.std.proofs.lemmas.List.Sums.{sum_by-append, sum_by-cons}
 use Rattle.bl_base.specs.Sums.{sum_below}
 use Rattle.bl_base.proofs.Sums.{sum_same, sum_change, sum_none}
-use Rattle.bl_cmd.specs.Rules.{IsWellFormed}
-use Rattle.bl_cmd.specs.Sites.{mark_of, mark_at}
-use Rattle.bl_cmd.specs.declared.command.Mark.{Mark}
-use Rattle.bl_cmd.specs.declared.command.Command.{Command}
-use Rattle.bl_cmd.specs.declared.definitions.ProgramParts.{ProgramParts as Program}
+use Rattle.bl_program.specs.Rules.{IsWellFormed}
+use Rattle.bl_program.specs.Sites.{mark_of, mark_at}
+use Rattle.bl_program.specs.declared.command.Mark.{Mark}
+use Rattle.bl_program.specs.declared.command.Command.{Command}
+use Rattle.bl_program.specs.declared.definitions.ProgramParts.{ProgramParts as Program}
 use Rattle.bl_graph.specs.Ranges.{AreSites}
 use Rattle.bl_transient.specs.Transient.{Passes}
 use Rattle.bl_cut.specs.Least.{Least}
@@ -142,7 +142,7 @@ module _ (program : Program) (counts : List SiteCount) where
   sites_on : (set : ℕ → Bool) → AreSites program set → AreSites (weighed counts program) set
   sites_on set h s chosen = subst IsSome (sym (weight_is (count_in counts) program s)) (by (mark_at program s) (h s chosen))
     where
-      by : (o : Option Mark) → IsSome (option_map (λ (mark : Mark). unwrap_or (Rattle.bl_cmd.specs.Sites.listed program.weights s) (10 ^ mark.depth)) o) → IsSome (option_map (λ (mark : Mark). weight_by (count_in counts s)) o)
+      by : (o : Option Mark) → IsSome (option_map (λ (mark : Mark). unwrap_or (Rattle.bl_program.specs.Sites.listed program.weights s) (10 ^ mark.depth)) o) → IsSome (option_map (λ (mark : Mark). weight_by (count_in counts s)) o)
       by None h = h
       by (Some mark) h = refl
 

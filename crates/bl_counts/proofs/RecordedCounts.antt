@@ -10,13 +10,13 @@ use Rattle.std.proofs.lemmas.List.Sums.{count_by-le-length, sum_by-cons}
 use Rattle.bl_base.specs.Runs.{EndsAfter, HasStep, Next, Outcome, StepsTo, ends, goes, last, more, stuck}
 use Rattle.bl_base.specs.declared.number.Pos.{Pos}
 use Rattle.bl_base.specs.declared.start.Start.{Start}
-use Rattle.bl_cmd.specs.Outcomes.{opening}
-use Rattle.bl_cmd.specs.Rules.{IsWellFormed}
-use Rattle.bl_cmd.specs.Sites.{mark_of}
-use Rattle.bl_cmd.specs.Steps.{Plain, plain_step}
-use Rattle.bl_cmd.specs.declared.command.Command.{Command}
-use Rattle.bl_cmd.specs.declared.command.Mark.{Mark}
-use Rattle.bl_cmd.specs.declared.definitions.ProgramParts.{ProgramParts as Program}
+use Rattle.bl_program.specs.Outcomes.{opening}
+use Rattle.bl_program.specs.Rules.{IsWellFormed}
+use Rattle.bl_program.specs.Sites.{mark_of}
+use Rattle.bl_program.specs.Steps.{Plain, plain_step}
+use Rattle.bl_program.specs.declared.command.Command.{Command}
+use Rattle.bl_program.specs.declared.command.Mark.{Mark}
+use Rattle.bl_program.specs.declared.definitions.ProgramParts.{ProgramParts as Program}
 use Rattle.bl_counts.specs.RunCounts.{bare, behind, counts_from, counts_of, executed, first_bad, is_above, is_site, stepped, times, total, with_count}
 use Rattle.bl_counts.specs.RecordedRuns.{AreRecorded, AreRising, FirstBad, IsExecuted, IsWritten, bad, none_bad}
 use Rattle.bl_counts.specs.declared.counts.SiteCount.{SiteCount}

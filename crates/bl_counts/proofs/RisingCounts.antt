@@ -7,11 +7,11 @@ use Rattle.std.proofs.lemmas.List.{append_assoc, append-nil}
 use Rattle.std.proofs.lemmas.List.Sums.{sum_by-le}
 use Rattle.std.proofs.lemmas.Option.{none-some}
 use Rattle.bl_base.specs.declared.number.Pos.{Pos}
-use Rattle.bl_cmd.specs.Sites.{mark_of, mark_at}
-use Rattle.bl_cmd.specs.declared.command.Mark.{Mark}
-use Rattle.bl_cmd.specs.declared.command.Command.{Command}
-use Rattle.bl_cmd.specs.declared.definitions.ProgramParts.{ProgramParts as Program}
-use Rattle.bl_cmd.specs.declared.definitions.SiteWeight.{SiteWeight}
+use Rattle.bl_program.specs.Sites.{mark_of, mark_at}
+use Rattle.bl_program.specs.declared.command.Mark.{Mark}
+use Rattle.bl_program.specs.declared.command.Command.{Command}
+use Rattle.bl_program.specs.declared.definitions.ProgramParts.{ProgramParts as Program}
+use Rattle.bl_program.specs.declared.definitions.SiteWeight.{SiteWeight}
 use Rattle.bl_counts.specs.WeighAnswers.{named}
 use Rattle.bl_counts.specs.RunCounts.{count_in, first_bad, is_above, is_site, total, weights_from, with_weight}
 use Rattle.bl_counts.specs.declared.counts.SiteCount.{SiteCount}

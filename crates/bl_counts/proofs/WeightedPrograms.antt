@@ -8,14 +8,14 @@ use Rattle.std.proofs.lemmas.List.Kept.{AllPairs-cons}
 use Rattle.std.proofs.lemmas.List.Sums.{sum_by-cons}
 use Rattle.bl_base.specs.Sums.{sum_below}
 use Rattle.bl_base.proofs.Sums.{sum_same, sum_le, sum_plus, sum_none, sum_bound}
-use Rattle.bl_cmd.specs.Layout.{command_at}
-use Rattle.bl_cmd.specs.Programs.{IsProgram}
-use Rattle.bl_cmd.specs.Rules.{Rule9, IsWeight, IsWellFormed}
-use Rattle.bl_cmd.specs.Sites.{mark_of, mark_at, listed, site_weight, weight_of}
-use Rattle.bl_cmd.specs.declared.command.Mark.{Mark}
-use Rattle.bl_cmd.specs.declared.command.Command.{Command}
-use Rattle.bl_cmd.specs.declared.definitions.ProgramParts.{ProgramParts as Program}
-use Rattle.bl_cmd.specs.declared.definitions.SiteWeight.{SiteWeight}
+use Rattle.bl_program.specs.Layout.{command_at}
+use Rattle.bl_program.specs.Programs.{IsProgram}
+use Rattle.bl_program.specs.Rules.{Rule9, IsWeight, IsWellFormed}
+use Rattle.bl_program.specs.Sites.{mark_of, mark_at, listed, site_weight, weight_of}
+use Rattle.bl_program.specs.declared.command.Mark.{Mark}
+use Rattle.bl_program.specs.declared.command.Command.{Command}
+use Rattle.bl_program.specs.declared.definitions.ProgramParts.{ProgramParts as Program}
+use Rattle.bl_program.specs.declared.definitions.SiteWeight.{SiteWeight}
 use Rattle.bl_cut.proofs.Remarked.{keeps_rules, unchanged}
 use Rattle.bl_counts.specs.RunCounts.{count_in, is_site, size_of, total, weight_by, weighed, weighed_by, weights_from, with_weight}
 use Rattle.bl_counts.specs.declared.counts.SiteCount.{SiteCount}

@@ -4,9 +4,9 @@ use Rattle.std.specs.List.{All, AllPairs}
 use Rattle.bl_base.specs.Runs.{HasStep, StepsTo}
 use Rattle.bl_base.specs.declared.number.Pos.{Pos}
 use Rattle.bl_base.specs.declared.start.Start.{Start}
-use Rattle.bl_cmd.specs.Outcomes.{opening}
-use Rattle.bl_cmd.specs.Steps.{Plain, plain_step}
-use Rattle.bl_cmd.specs.declared.definitions.ProgramParts.{ProgramParts as Program}
+use Rattle.bl_program.specs.Outcomes.{opening}
+use Rattle.bl_program.specs.Steps.{Plain, plain_step}
+use Rattle.bl_program.specs.declared.definitions.ProgramParts.{ProgramParts as Program}
 use Rattle.bl_counts.specs.RunCounts.{count_in, executed, first_bad, is_site, times, total}
 use Rattle.bl_counts.specs.declared.counts.SiteCount.{SiteCount}
 

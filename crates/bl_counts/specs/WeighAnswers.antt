@@ -1,6 +1,6 @@
 -- What a call answers.
 use Rattle.std.specs.Prelude.{◌≡◌, ◌<◌, ◌≤◌, ◌^◌, ◌==◌, if◌then◌else◌, ℕ, List, [], ◌∷◌, Option, Some, None, Result, Ok, Err}
-use Rattle.bl_cmd.specs.declared.definitions.ProgramParts.{ProgramParts as Program}
+use Rattle.bl_program.specs.declared.definitions.ProgramParts.{ProgramParts as Program}
 use Rattle.bl_counts.specs.RunCounts.{first_bad, total, weighed}
 use Rattle.bl_counts.specs.declared.counts.SiteCount.{SiteCount}
 use Rattle.bl_counts.specs.declared.error.CountError.{CountError}

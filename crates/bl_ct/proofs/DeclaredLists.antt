@@ -7,30 +7,24 @@ use Rattle.bl_base.proofs.Lists.{all_get, within_get}
 use Rattle.bl_base.specs.declared.number.Var.{Var}
 use Rattle.bl_base.specs.declared.names.Label.TheVariants as label
 use Rattle.bl_base.proofs.Members.{in_map, from_map}
-use Rattle.bl_cmd.specs.Layout.{command_at, first_of, params_of, results_of, statics}
-use Rattle.bl_cmd.specs.Rules.{IsFunction, IsWellFormed}
-use Rattle.bl_cmd.specs.declared.command.Command.{Command}
-use Rattle.bl_cmd.specs.declared.definitions.FunctionDef.{FunctionDef}
-use Rattle.bl_cmd.specs.declared.definitions.GlobalDef.{GlobalDef}
-use Rattle.bl_cmd.specs.declared.definitions.ParamDef.{ParamDef}
-use Rattle.bl_cmd.specs.declared.definitions.ProgramParts.{ProgramParts as Program}
+use Rattle.bl_base.proofs.OptionLemmas.{some_with, with_some}
+use Rattle.bl_program.specs.Layout.{command_at, first_of, params_of, results_of, statics}
+use Rattle.bl_program.specs.Rules.{IsFunction, IsWellFormed}
+use Rattle.bl_program.specs.declared.command.Command.{Command}
+use Rattle.bl_program.specs.declared.definitions.FunctionDef.{FunctionDef}
+use Rattle.bl_program.specs.declared.definitions.GlobalDef.{GlobalDef}
+use Rattle.bl_program.specs.declared.definitions.ParamDef.{ParamDef}
+use Rattle.bl_program.specs.declared.definitions.ProgramParts.{ProgramParts as Program}
 use Rattle.bl_graph.specs.Secrets.{Declares, LoadsSecret, Stores, Demands, GivesPublic, TakesSecret, demanded_by}
 use Rattle.bl_graph.specs.declared.facts.Use.{Use}
 use Rattle.bl_graph.specs.declared.secret.Origin.{Origin}
 use Rattle.bl_graph.specs.declared.secret.Origin.TheVariants.{Parameter, Global, Memory}
-use Rattle.bl_cmd.proofs.Layouts.{first_above, first_below, next_first, number_is}
-use Rattle.bl_graph.specs.FirstVariables.{firsts_from}
+use Rattle.bl_program.proofs.Layouts.{first_above, first_below, next_first, number_is}
 use Rattle.bl_graph.specs.Graphs.{use_of}
-use Rattle.bl_graph.proofs.FirstVariableLemmas.{firsts_at, firsts_length}
 use Rattle.bl_ct.specs.Facts.{AreFacts, DeclaresOne, Gathers, SomeAt, GlobalFits, ParamFits, FunctionFits, LoadFits, StoreFits}
 use Rattle.bl_ct.specs.declared.facts.Declared.{Declared}
 use Rattle.bl_ct.specs.declared.facts.SecretLoad.{SecretLoad}
 use Rattle.bl_ct.proofs.GatheredLists.{Below, gathered, gathers_as, gathers_next, gathers_one}
-use Rattle.bl_ct.proofs.KnownRanges.{found}
-
--- what is known of what stands there
-pub standing : {A : Type 0} (o : Option A) (P : A → Type 0) (x : A) → o ≡ Some x → P x → IsSomeAnd o P
-standing o P x e p = subst (λ o. IsSomeAnd o P) (sym e) p
 
 abbrev loaded_at : ℕ → ℕ → SecretLoad
 loaded_at position memory = record { at = position; memory = memory }
@@ -47,22 +41,22 @@ module _ (program : Program) where
 
   pub listed_declares : (one : Declared) → Listed one → DeclaresOne program one
   listed_declares one (inl h) =
-      subst (DeclaresOne program) (sym h.3.1) (standing (slice_get program.globals h.0) (λ global. global.label ≡ label.Secret) h.1 h.2 h.3.0, refl)
+      subst (DeclaresOne program) (sym h.3.1) (with_some (slice_get program.globals h.0) (λ global. global.label ≡ label.Secret) h.1 h.2 h.3.0, refl)
   listed_declares one (inr h) =
       let p = h.3 in
       subst (DeclaresOne program) (sym p.3.1) (
-        standing (slice_get program.functions h.0) (λ defined. IsSomeAnd (slice_get defined.params p.0) (λ one. one.label ≡ label.Secret)) h.1 h.2
-            (standing (slice_get h.1.params p.0) (λ one. one.label ≡ label.Secret) p.1 p.2 p.3.0),
+        with_some (slice_get program.functions h.0) (λ defined. IsSomeAnd (slice_get defined.params p.0) (λ one. one.label ≡ label.Secret)) h.1 h.2
+            (with_some (slice_get h.1.params p.0) (λ one. one.label ≡ label.Secret) p.1 p.2 p.3.0),
         refl,
       )
 
   pub declares_listed : (x : ℕ) (origin : Origin) → Declares program x origin → Listed (record { var = x; origin = origin })
   declares_listed x (Parameter function index) h =
-      let f = found (slice_get program.functions function) (λ defined. IsSomeAnd (slice_get defined.params index) (λ one. one.label ≡ label.Secret)) h.0 in
-      let p = found (slice_get f.0.params index) (λ one. one.label ≡ label.Secret) f.2 in
+      let f = some_with (slice_get program.functions function) (λ defined. IsSomeAnd (slice_get defined.params index) (λ one. one.label ≡ label.Secret)) h.0 in
+      let p = some_with (slice_get f.0.params index) (λ one. one.label ≡ label.Secret) f.2 in
       inr (function, f.0, f.1, (index, p.0, p.1, (p.2, ap (one_of (Parameter function index)) (sym h.1))))
   declares_listed x (Global number) h =
-      let g = found (slice_get program.globals number) (λ global. global.label ≡ label.Secret) h.0 in
+      let g = some_with (slice_get program.globals number) (λ global. global.label ≡ label.Secret) h.0 in
       inl (number, g.0, g.1, (g.2, ap (one_of (Global number)) (sym h.1)))
   declares_listed x (Memory number) h = absurd h
 
@@ -74,17 +68,17 @@ module _ (program : Program) where
 
   load_stands : (load : SecretLoad) → SomeAt program.commands (LoadFits program) load ↔ LoadsSecret program load.at load.memory
   load_stands load = (
-    (λ h. standing (command_at program load.at) (λ command. TakesSecret program command load.memory) h.1 (ap (slice_get program.commands) h.3.0 ∙ h.2) h.3.1),
+    (λ h. with_some (command_at program load.at) (λ command. TakesSecret program command load.memory) h.1 (ap (slice_get program.commands) h.3.0 ∙ h.2) h.3.1),
     (λ h.
-        let command = found (command_at program load.at) (λ command. TakesSecret program command load.memory) h in
+        let command = some_with (command_at program load.at) (λ command. TakesSecret program command load.memory) h in
         (load.at, command.0, command.1, (refl, command.2))),
   )
 
   store_stands : (store : Use) → SomeAt program.commands (StoreFits program) store ↔ Stores program store.at.0 store.var.0
   store_stands store = (
-    (λ h. standing (command_at program store.at.0) (λ command. GivesPublic program command store.var.0) h.1 (ap (slice_get program.commands) h.3.0 ∙ h.2) h.3.1),
+    (λ h. with_some (command_at program store.at.0) (λ command. GivesPublic program command store.var.0) h.1 (ap (slice_get program.commands) h.3.0 ∙ h.2) h.3.1),
     (λ h.
-        let command = found (command_at program store.at.0) (λ command. GivesPublic program command store.var.0) h in
+        let command = some_with (command_at program store.at.0) (λ command. GivesPublic program command store.var.0) h in
         (store.at.0, command.0, command.1, (refl, command.2))),
   )
 
@@ -172,15 +166,6 @@ store_one at_ o var old new some is =
           subst (λ v. use_of at_ v ≡ x) (sym same) (subst (λ a. use_of a x.var.0 ≡ x) h.0 refl)),
       (λ e. subst (λ (y : Use). (y.at.0 ≡ at_) × (option_map (λ (v : Var). v.0) o ≡ Some y.var.0)) e (refl, is_some)),
     ))
-
--- ---- what begins a function
-
-module _ (program : Program) (firsts : List ℕ) (is : firsts ≡ firsts_from (statics program) program.functions) where
-  pub first_is : (function d : ℕ) → function < length program.functions → slice_index_or firsts function d ≡ first_of program function
-  first_is function d lt = ap (λ l. slice_index_or l function d) is ∙ firsts_at (statics program) program.functions function d lt
-
-  pub firsts_count : length firsts ≡ length program.functions
-  firsts_count = ap length is ∙ firsts_length (statics program) program.functions
 
 -- ---- what fits into 32 bits
 

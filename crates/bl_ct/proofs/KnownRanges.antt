@@ -8,18 +8,19 @@ use Rattle.bl_base.proofs.Lists.{all_get, within_get}
 use Rattle.bl_base.specs.declared.names.Label.{Label}
 use Rattle.bl_base.specs.declared.names.Label.TheVariants as label
 use Rattle.bl_base.proofs.Members.{in_map, from_map}
-use Rattle.bl_cmd.specs.Layout.{command_at, statics, params_of, results_of, result}
-use Rattle.bl_cmd.specs.Programs.{IsProgram}
-use Rattle.bl_cmd.specs.Rules.{IsWellFormed, IsDemand, IsFunction, IsOwn, operands_of}
-use Rattle.bl_cmd.specs.Sites.{Among}
-use Rattle.bl_cmd.specs.declared.command.Command.{Command}
-use Rattle.bl_cmd.specs.declared.command.Command.TheVariants.{Store}
-use Rattle.bl_cmd.specs.declared.definitions.Demand.{Demand}
-use Rattle.bl_cmd.specs.declared.definitions.Demand.TheVariants as demand
-use Rattle.bl_cmd.specs.declared.definitions.FunctionDef.{FunctionDef}
-use Rattle.bl_cmd.specs.declared.definitions.GlobalDef.{GlobalDef}
-use Rattle.bl_cmd.specs.declared.definitions.ProgramParts.{ProgramParts as Program}
-use Rattle.bl_cmd.proofs.Layouts.{first_below, first_above, next_first, number_is, own_apart, result_own}
+use Rattle.bl_base.proofs.OptionLemmas.{some_with}
+use Rattle.bl_program.specs.Layout.{command_at, statics, params_of, results_of, result}
+use Rattle.bl_program.specs.Programs.{IsProgram}
+use Rattle.bl_program.specs.Rules.{IsWellFormed, IsDemand, IsFunction, IsOwn, operands_of}
+use Rattle.bl_program.specs.Sites.{Among}
+use Rattle.bl_program.specs.declared.command.Command.{Command}
+use Rattle.bl_program.specs.declared.command.Command.TheVariants.{Store}
+use Rattle.bl_program.specs.declared.definitions.Demand.{Demand}
+use Rattle.bl_program.specs.declared.definitions.Demand.TheVariants as demand
+use Rattle.bl_program.specs.declared.definitions.FunctionDef.{FunctionDef}
+use Rattle.bl_program.specs.declared.definitions.GlobalDef.{GlobalDef}
+use Rattle.bl_program.specs.declared.definitions.ProgramParts.{ProgramParts as Program}
+use Rattle.bl_program.proofs.Layouts.{first_below, first_above, next_first, number_is, own_apart, result_own}
 use Rattle.bl_graph.specs.Ranges.{commands, variables, AreInRange}
 use Rattle.bl_graph.specs.Secrets.{IsSecretParam, IsSecretGlobal, Declares, Stores, GivesPublic, demanded_by}
 use Rattle.bl_graph.specs.declared.facts.Use.{Use}
@@ -35,11 +36,6 @@ use Rattle.bl_ct.specs.declared.facts.Facts.{Facts}
 use Rattle.bl_ct.specs.declared.facts.Declared.{Declared}
 use Rattle.bl_ct.specs.declared.facts.Known.{Known}
 
--- what stands there
-pub found : {A : Type 0} (o : Option A) (P : A → Type 0) → IsSomeAnd o P → (x : A) × (o ≡ Some x) × P x
-found None P h = absurd h
-found (Some x) P h = (x, refl, h)
-
 abbrev IsSecretLabel : Label → Type 0
 IsSecretLabel label.Public = ⊥
 IsSecretLabel label.Secret = Unit {0}
@@ -51,15 +47,15 @@ module _ (program : Program) (facts : IsProgram program) (rules : IsWellFormed p
   -- a parameter that is declared secret is one of its function's
   param_own : (function index : ℕ) → IsSecretParam program function index → (function < length program.functions) × (index < params_of program function)
   param_own function index h =
-      let f = found (slice_get program.functions function) (λ defined. IsSomeAnd (slice_get defined.params index) (λ one. one.label ≡ label.Secret)) h in
-      let p = found (slice_get f.0.params index) (λ one. one.label ≡ label.Secret) f.2 in
+      let f = some_with (slice_get program.functions function) (λ defined. IsSomeAnd (slice_get defined.params index) (λ one. one.label ≡ label.Secret)) h in
+      let p = some_with (slice_get f.0.params index) (λ one. one.label ≡ label.Secret) f.2 in
       let low = slice_get_within f.0.params index p.0 p.1 in
       let count = number_is (λ (g : FunctionDef). length g.params) program.functions function f.0 f.1 in
       (slice_get_within program.functions function f.0 f.1, omega arith)
 
   global_static : (number : ℕ) → IsSecretGlobal program number → number < statics program
   global_static number h =
-      let g = found (slice_get program.globals number) (λ global. global.label ≡ label.Secret) h in
+      let g = some_with (slice_get program.globals number) (λ global. global.label ≡ label.Secret) h in
       let low = slice_get_within program.globals number g.0 g.1 in
       omega arith
 
@@ -78,7 +74,7 @@ module _ (program : Program) (facts : IsProgram program) (rules : IsWellFormed p
 
   stored_small : (position x : ℕ) → Stores program position x → x < variables program
   stored_small position x h =
-      let stands = found (command_at program position) (λ command. GivesPublic program command x) h in
+      let stands = some_with (command_at program position) (λ command. GivesPublic program command x) h in
       operand_small program facts rules position stands.0 x stands.1 (given_among stands.0 x stands.2)
 
   -- a result that is demanded is one of its function's
@@ -89,7 +85,7 @@ module _ (program : Program) (facts : IsProgram program) (rules : IsWellFormed p
   demand_small (demand.Result function index) h =
       let own = demand_own function index h.1 in let up = first_below program (suc function) (let e = h.0 in omega arith) in let high = own.1 in omega arith
   demand_small (demand.Global number) h =
-      let g = found (slice_get program.globals number) (λ global. global.label ≡ label.Public) h in
+      let g = some_with (slice_get program.globals number) (λ global. global.label ≡ label.Public) h in
       let low = slice_get_within program.globals number g.0 g.1 in
       static_small number (omega arith)
 
@@ -109,7 +105,7 @@ module _ (program : Program) (facts : IsProgram program) (rules : IsWellFormed p
       let place_is : result program function place ≡ x = ap (λ g. result program g place) same ∙ e in
       omega arith
   one_apart (Parameter function index) (demand.Global number) x h d e =
-      let g = found (slice_get program.globals number) (λ global. global.label ≡ label.Public) d in
+      let g = some_with (slice_get program.globals number) (λ global. global.label ≡ label.Public) d in
       let low = slice_get_within program.globals number g.0 g.1 in
       let above = first_above program function in
       let is = h.1 in
@@ -121,8 +117,8 @@ module _ (program : Program) (facts : IsProgram program) (rules : IsWellFormed p
       let is = h.1 in
       omega arith
   one_apart (Global number) (demand.Global other) x h d e =
-      let g = found (slice_get program.globals number) (λ global. global.label ≡ label.Secret) h.0 in
-      let k = found (slice_get program.globals other) (λ global. global.label ≡ label.Public) d in
+      let g = some_with (slice_get program.globals number) (λ global. global.label ≡ label.Secret) h.0 in
+      let k = some_with (slice_get program.globals other) (λ global. global.label ≡ label.Public) d in
       let same : number ≡ other = h.1 ∙ sym e in
       let one : g.0 ≡ k.0 = same_Some g.0 k.0 (sym g.1 ∙ (ap (slice_get program.globals) same ∙ k.1)) in
       secret_public (sym g.2 ∙ (ap (λ (d : GlobalDef). d.label) one ∙ k.2))

@@ -4,8 +4,8 @@ use Rattle.std.specs.Prelude.{IsTrue}
 use Rattle.std.proofs.lemmas.Bool.{not_from_false, false_from_ne_true}
 use Rattle.bl_base.specs.declared.number.Pos.{Pos}
 use Rattle.bl_base.proofs.Decisions.{decided_below, decided_in}
-use Rattle.bl_cmd.specs.Sites.{Among, SinkReads, sunk_by}
-use Rattle.bl_cmd.specs.declared.definitions.ProgramParts.{ProgramParts as Program}
+use Rattle.bl_program.specs.Sites.{Among, SinkReads, sunk_by}
+use Rattle.bl_program.specs.declared.definitions.ProgramParts.{ProgramParts as Program}
 use Rattle.bl_graph.specs.Labels.{AssignsLabels, ConstantTime, Secret, declared, loaded, moved}
 use Rattle.bl_graph.specs.Ranges.{commands}
 use Rattle.bl_graph.specs.SecretChains.{sunk, stored, given, LeadsToEnd, IsSecretChain}

@@ -5,27 +5,28 @@ use Rattle.std.proofs.lemmas.Bool.{false≢true}
 use Rattle.bl_base.proofs.Lists.{all_get}
 use Rattle.bl_base.specs.declared.names.Label.{Label}
 use Rattle.bl_base.specs.declared.names.Label.TheVariants as label
-use Rattle.bl_cmd.specs.Layout.{command_at}
-use Rattle.bl_cmd.specs.declared.command.Command.{Command}
-use Rattle.bl_cmd.specs.declared.command.Command.TheVariants.{Load}
-use Rattle.bl_cmd.specs.declared.definitions.FunctionDef.{FunctionDef}
-use Rattle.bl_cmd.specs.declared.definitions.GlobalDef.{GlobalDef}
-use Rattle.bl_cmd.specs.declared.definitions.MemoryDef.{MemoryDef}
-use Rattle.bl_cmd.specs.declared.definitions.ParamDef.{ParamDef}
-use Rattle.bl_cmd.specs.declared.definitions.ProgramParts.{ProgramParts as Program}
+use Rattle.bl_base.proofs.OptionLemmas.{some_with}
+use Rattle.bl_program.specs.Layout.{command_at}
+use Rattle.bl_program.specs.declared.command.Command.{Command}
+use Rattle.bl_program.specs.declared.command.Command.TheVariants.{Load}
+use Rattle.bl_program.specs.declared.definitions.FunctionDef.{FunctionDef}
+use Rattle.bl_program.specs.declared.definitions.GlobalDef.{GlobalDef}
+use Rattle.bl_program.specs.declared.definitions.MemoryDef.{MemoryDef}
+use Rattle.bl_program.specs.declared.definitions.ParamDef.{ParamDef}
+use Rattle.bl_program.specs.declared.definitions.ProgramParts.{ProgramParts as Program}
 use Rattle.bl_graph.specs.Labels.{Secret, declared, loaded, moved}
 use Rattle.bl_graph.specs.Secrets.{Declares, LoadsSecret, TakesSecret}
 use Rattle.bl_graph.specs.declared.secret.Origin.{Origin}
 use Rattle.bl_graph.specs.declared.secret.Origin.TheVariants.{Parameter, Global, Memory}
 use Rattle.bl_ct.specs.Facts.{HasNoSecrets, HasPublicParams}
 use Rattle.bl_ct.specs.Verdicts.{AreSecrets}
-use Rattle.bl_ct.proofs.KnownRanges.{found, secret_public}
+use Rattle.bl_ct.proofs.KnownRanges.{secret_public}
 
 -- what is public isn't secret
 none_secret : {A : Type 0} (label_in : A → Label) (xs : List A) (place : ℕ) → All (λ x. label_in x ≡ label.Public) xs
     → IsSomeAnd (slice_get xs place) (λ x. label_in x ≡ label.Secret) → ⊥
 none_secret label_in xs place all h =
-    let one = found (slice_get xs place) (λ x. label_in x ≡ label.Secret) h in
+    let one = some_with (slice_get xs place) (λ x. label_in x ≡ label.Secret) h in
     secret_public (sym one.2 ∙ all_get (λ x. label_in x ≡ label.Public) xs place one.0 all one.1)
 
 params_public : (function : FunctionDef) → HasPublicParams function → All (λ (param : ParamDef). param.label ≡ label.Public) function.params
@@ -35,7 +36,7 @@ params_public function h = h
 module _ (program : Program) (none : HasNoSecrets program) where
   not_declared : (x : ℕ) (origin : Origin) → Declares program x origin → ⊥
   not_declared x (Parameter function index) h =
-      let one = found (slice_get program.functions function) (λ defined. IsSomeAnd (slice_get defined.params index) (λ one. one.label ≡ label.Secret)) h.0 in
+      let one = some_with (slice_get program.functions function) (λ defined. IsSomeAnd (slice_get defined.params index) (λ one. one.label ≡ label.Secret)) h.0 in
       none_secret (λ (param : ParamDef). param.label) one.0.params index
       (params_public one.0 (all_get HasPublicParams program.functions function one.0 none.functions one.1)) one.2
   not_declared x (Global number) h = none_secret (λ (global : GlobalDef). global.label) program.globals number none.globals h.0
@@ -47,7 +48,7 @@ module _ (program : Program) (none : HasNoSecrets program) where
 
   not_loaded : (s memory : ℕ) → LoadsSecret program s memory → ⊥
   not_loaded s memory h =
-      let stands = found (command_at program s) (λ command. TakesSecret program command memory) h in
+      let stands = some_with (command_at program s) (λ command. TakesSecret program command memory) h in
       not_taken stands.0 memory stands.2
 
   not_secret : (x : ℕ) → Secret program x → ⊥

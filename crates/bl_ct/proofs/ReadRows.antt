@@ -6,7 +6,7 @@ use Rattle.std.proofs.lemmas.Bool.{cases_lt}
 use Rattle.std.proofs.lemmas.List.{get_or_past}
 use Rattle.std.proofs.lemmas.List.Elements.{Contains-get_or}
 use Rattle.bl_base.proofs.Members.{in_map, from_map, none_in}
-use Rattle.bl_cmd.specs.Sites.{Reads}
+use Rattle.bl_program.specs.Sites.{Reads}
 use Rattle.bl_graph.specs.Graphs.{use_of}
 use Rattle.bl_graph.specs.Names.{place_of}
 use Rattle.bl_graph.specs.declared.facts.Use.{Use}

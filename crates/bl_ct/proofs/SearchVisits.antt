@@ -9,11 +9,11 @@ use Rattle.std.proofs.lemmas.List.Elements.{Contains-push_cases, Contains-append
 use Rattle.std.proofs.lemmas.Option.{slice_get_within, get_or_from_slice_get, slice_get-get_or, same_Some}
 use Rattle.bl_base.proofs.Lists.{replicate_or}
 use Rattle.bl_base.proofs.Members.{none_in, listed, lists}
-use Rattle.bl_cmd.specs.declared.definitions.ProgramParts.{ProgramParts as Program}
+use Rattle.bl_program.specs.declared.definitions.ProgramParts.{ProgramParts as Program}
 use Rattle.bl_ct.specs.declared.search.Step.{Step}
 use Rattle.bl_ct.specs.declared.search.Cause.{Cause}
 use Rattle.bl_ct.specs.declared.search.Cause.TheVariants.{Declared, Loaded, Moved}
-use Rattle.bl_cmd.specs.Sites.{Writes, Reads}
+use Rattle.bl_program.specs.Sites.{Writes, Reads}
 use Rattle.bl_graph.specs.Labels.{Secret, declared, loaded, moved}
 use Rattle.bl_graph.specs.Names.{place_of}
 use Rattle.bl_ct.specs.Facts.{AreFacts}

@@ -6,13 +6,13 @@ use Rattle.std.proofs.lemmas.Option.{slice_get_within}
 use Rattle.bl_base.specs.declared.names.Label.{Label}
 use Rattle.bl_base.specs.declared.names.Label.TheVariants as label
 use Rattle.bl_base.proofs.Decisions.{Decided, decided_as, decided_below, decided_both, decided_either, decided_some, holds, holds_if, if_holds}
-use Rattle.bl_cmd.proofs.TableLemmas.{and_some}
-use Rattle.bl_cmd.specs.Layout.{command_at, param}
-use Rattle.bl_cmd.specs.Sites.{Writes}
-use Rattle.bl_cmd.specs.declared.command.Command.{Command}
-use Rattle.bl_cmd.specs.declared.command.Command.TheVariants.{Load, Store}
-use Rattle.bl_cmd.specs.declared.command.Operand.TheVariants.{Var, Const}
-use Rattle.bl_cmd.specs.declared.definitions.ProgramParts.{ProgramParts as Program}
+use Rattle.bl_base.proofs.OptionLemmas.{some_with}
+use Rattle.bl_program.specs.Layout.{command_at, param}
+use Rattle.bl_program.specs.Sites.{Writes}
+use Rattle.bl_program.specs.declared.command.Command.{Command}
+use Rattle.bl_program.specs.declared.command.Command.TheVariants.{Load, Store}
+use Rattle.bl_program.specs.declared.command.Operand.TheVariants.{Var, Const}
+use Rattle.bl_program.specs.declared.definitions.ProgramParts.{ProgramParts as Program}
 use Rattle.bl_graph.specs.Labels.{Secret, declared, loaded, moved}
 use Rattle.bl_graph.specs.Ranges.{commands}
 use Rattle.bl_graph.specs.Secrets.{Declares, GivesPublic, IsSecretGlobal, IsSecretMemory, IsSecretParam, LoadsSecret, Stores, TakesSecret}
@@ -39,7 +39,7 @@ module _ (program : Program) where
 
   as_param_or_global : (x : ℕ) (origin : Origin) → Declares program x origin → ((function : ℕ) × (function < length program.functions) × IsParamOf x function) ⊎ IsSecretGlobal program x
   as_param_or_global x (Parameter function index) h =
-      let defined = and_some (λ defined. IsSomeAnd (slice_get defined.params index) (λ one. one.label ≡ label.Secret)) (slice_get program.functions function) h.0 in
+      let defined = some_with (slice_get program.functions function) (λ defined. IsSomeAnd (slice_get defined.params index) (λ one. one.label ≡ label.Secret)) h.0 in
       let e = h.1 in
       inl (function, slice_get_within program.functions function defined.0 defined.1, (index, omega arith, h))
   as_param_or_global x (Global number) h = inr (subst (IsSecretGlobal program) h.1 h.0)

@@ -3,7 +3,7 @@ use Rattle.std.proofs.Common.{◌≡◌, ℕ, Bool, List, Option, Some, false}
 use Rattle.std.specs.Prelude.{◌↔◌}
 use Rattle.std.specs.List.{Contains}
 use Rattle.std.proofs.lemmas.Bool.{not_from_false}
-use Rattle.bl_cmd.specs.Sites.{Writes}
+use Rattle.bl_program.specs.Sites.{Writes}
 use Rattle.bl_graph.specs.Graphs.{use_of}
 use Rattle.bl_graph.specs.WrittenVariables.{AreUnprotected}
 use Rattle.bl_graph.proofs.RangeLemmas.{writes_one}

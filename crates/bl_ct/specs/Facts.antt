@@ -1,14 +1,14 @@
 -- What is known of a program: its graph, what it declares secret, and where it has to be public, as lists.
 use Rattle.std.specs.Prelude.{◌≡◌, ◌⊎◌, ◌↔◌, ◌+◌, ◌++◌, ◌<◌, ℕ, All, Contains, List, Some, map, slice_get}
 use Rattle.bl_base.specs.declared.names.Label.TheVariants as label
-use Rattle.bl_cmd.specs.Layout.{first_of}
-use Rattle.bl_cmd.specs.Programs.{IsProgram}
-use Rattle.bl_cmd.specs.Rules.{IsWellFormed}
-use Rattle.bl_cmd.specs.declared.command.Command.{Command}
-use Rattle.bl_cmd.specs.declared.definitions.FunctionDef.{FunctionDef}
-use Rattle.bl_cmd.specs.declared.definitions.GlobalDef.{GlobalDef}
-use Rattle.bl_cmd.specs.declared.definitions.ParamDef.{ParamDef}
-use Rattle.bl_cmd.specs.declared.definitions.ProgramParts.{ProgramParts as Program}
+use Rattle.bl_program.specs.Layout.{first_of}
+use Rattle.bl_program.specs.Programs.{IsProgram}
+use Rattle.bl_program.specs.Rules.{IsWellFormed}
+use Rattle.bl_program.specs.declared.command.Command.{Command}
+use Rattle.bl_program.specs.declared.definitions.FunctionDef.{FunctionDef}
+use Rattle.bl_program.specs.declared.definitions.GlobalDef.{GlobalDef}
+use Rattle.bl_program.specs.declared.definitions.ParamDef.{ParamDef}
+use Rattle.bl_program.specs.declared.definitions.ProgramParts.{ProgramParts as Program}
 use Rattle.bl_graph.specs.Graphs.{IsGraph}
 use Rattle.bl_graph.specs.Names.{AreNames}
 use Rattle.bl_graph.specs.Ranges.{variables}

@@ -1,8 +1,8 @@
 -- The search for secret variables: each is found once, and how it was found stands in a queue.
 use Rattle.std.specs.Prelude.{◌≡◌, ◌↔◌, ℕ, ◌+◌, ◌<◌, ◌≤◌, ◌⊎◌, Bool, List, [], ◌++◌, AllPairs, Option, Some, None, is_some, Contains, length, nat_eq, slice_get, slice_index_or, IsTrue}
 use Rattle.std.specs.List.{list_any}
-use Rattle.bl_cmd.specs.Sites.{Writes, Reads}
-use Rattle.bl_cmd.specs.declared.definitions.ProgramParts.{ProgramParts as Program}
+use Rattle.bl_program.specs.Sites.{Writes, Reads}
+use Rattle.bl_program.specs.declared.definitions.ProgramParts.{ProgramParts as Program}
 use Rattle.bl_graph.specs.Arcs.{is_in, unmarked}
 use Rattle.bl_graph.specs.Graphs.{use_of}
 use Rattle.bl_graph.specs.Names.{place_of}

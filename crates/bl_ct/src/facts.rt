@@ -1,14 +1,16 @@
 //! What a program declares secret, and where it has to be public.
 ghost use Rattle.std.specs.Prelude.{◌≡◌, ◌↔◌, ◌+◌, ◌++◌, ◌<◌, ◌^◌, ℕ, IfOk, IsSomeAnd, IsTrue, OnOk, Some, [], length, map, option_map, slice_get};
 ghost use Rattle.bl_base.specs.declared.names.Label.TheVariants as label_is;
-ghost use Rattle.bl_cmd.specs.{Layout.params_of, Layout.statics, Programs.IsProgram, Rules.IsDemand, Rules.IsWellFormed, Sites.Names};
-ghost use Rattle.bl_graph.specs.{FirstVariables.firsts_from, Ranges.commands};
+ghost use Rattle.bl_program.specs.{Layout.AreValues, Layout.first_of, Layout.params_of, Programs.IsProgram, Rules.IsDemand, Rules.IsWellFormed, Sites.Names};
+ghost use Rattle.bl_graph.specs.Ranges.{commands};
 ghost use Rattle.bl_graph.specs.Secrets.{GivesPublic, TakesSecret, demanded_by};
 ghost use Rattle.bl_ct.specs.Facts.{AreFacts, DeclaresOne, Gathers, GlobalFits, LoadFits, ParamFits, SomeAt, StoreFits, vars_of};
 
 use bl_base::{Label, List, NoMemory, Pos, Var};
-use bl_cmd::{Command, Demand, GlobalDef, MemoryDef, Operand, ParamDef, ProgramParts, WellFormed};
-use bl_graph::{Graph, Origin, Use, firsts_of};
+use bl_graph::{Graph, Origin, Use};
+use bl_program::{
+    Command, Demand, GlobalDef, MemoryDef, Operand, ParamDef, ProgramParts, WellFormed, firsts_of,
+};
 use std::alloc::Global;
 
 /// A variable that is declared secret.
@@ -71,9 +73,9 @@ pub(crate) fn facts_of(alloc: Global, parts: &ProgramParts) -> Result<Facts, NoM
     ensures { IfOk result (λ facts. AreFacts parts.now facts) }
 {
     let firsts = firsts_of(alloc, parts)?;
-    let declared = declared_of(alloc, parts, &firsts)?;
+    let declared = declared_of(alloc, parts, firsts.as_slice())?;
     let accesses = accesses_of(alloc, parts)?;
-    let demanded = demanded_of(alloc, parts, &firsts)?;
+    let demanded = demanded_of(alloc, parts, firsts.as_slice())?;
     Ok(Facts {
         declared,
         loads: accesses.loads,
@@ -128,7 +130,7 @@ fn declared_of(
 ) -> Result<List<Declared>, NoMemory>
     requires program { IsProgram parts.now }
     requires rules { IsWellFormed parts.now }
-    requires firsts { firsts.now ≡ firsts_from (statics parts.now) parts.now.functions }
+    requires firsts { AreValues (first_of parts.now) (length parts.now.functions) firsts.now }
     ensures { IfOk result (Gathers (DeclaresOne parts.now) []) }
 {
     let mut all = List::new(alloc);
@@ -259,7 +261,7 @@ fn is_labelled(parts: &ProgramParts, number: u32, label: Label) -> bool
 fn demanded_of(alloc: Global, parts: &ProgramParts, firsts: &[u32]) -> Result<List<u32>, NoMemory>
     requires program { IsProgram parts.now }
     requires rules { IsWellFormed parts.now }
-    requires firsts { firsts.now ≡ firsts_from (statics parts.now) parts.now.functions }
+    requires firsts { AreValues (first_of parts.now) (length parts.now.functions) firsts.now }
     ensures { IfOk result (λ demanded. demanded ≡ map (demanded_by parts.now) parts.now.demands) }
 {
     let mut demanded = List::new(alloc);
@@ -273,7 +275,7 @@ fn demanded_of(alloc: Global, parts: &ProgramParts, firsts: &[u32]) -> Result<Li
 fn demanded_by(parts: &ProgramParts, firsts: &[u32], demand: Demand) -> u32
     requires program { IsProgram parts.now }
     requires rules { IsWellFormed parts.now }
-    requires firsts { firsts.now ≡ firsts_from (statics parts.now) parts.now.functions }
+    requires firsts { AreValues (first_of parts.now) (length parts.now.functions) firsts.now }
     requires named { IsDemand parts.now demand }
     ensures { result ≡ demanded_by parts.now demand }
 {

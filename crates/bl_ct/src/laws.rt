@@ -1,6 +1,6 @@
 //! Laws of labellings and secret chains. Each function is its contract alone.
 ghost use Rattle.std.specs.Prelude.{◌⊎◌, ◌↔◌, ℕ, Bool, IsTrue};
-ghost use Rattle.bl_cmd.specs.{Programs.IsProgram, Rules.IsWellFormed, declared.definitions.ProgramParts.ProgramParts};
+ghost use Rattle.bl_program.specs.{Programs.IsProgram, Rules.IsWellFormed, declared.definitions.ProgramParts.ProgramParts};
 ghost use Rattle.bl_graph.specs.Labels.{AssignsLabels, ConstantTime, Secret};
 ghost use Rattle.bl_graph.specs.{SecretChains.IsSecretChain, declared.secret.SecretChain.SecretChain};
 

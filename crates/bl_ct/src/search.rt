@@ -1,6 +1,6 @@
 //! The search for secret variables.
 ghost use Rattle.std.specs.Prelude.{◌≡◌, ◌<◌, ◌↔◌, ℕ, All, AllPairs, Contains, IfOk, OnOk, Some, length, map};
-ghost use Rattle.bl_cmd.specs.Sites.{Reads, Writes};
+ghost use Rattle.bl_program.specs.Sites.{Reads, Writes};
 ghost use Rattle.bl_graph.specs.{Names.place_of, Arcs.row_at, Arcs.rows_in};
 ghost use Rattle.bl_ct.specs.Facts.{IsKnown};
 ghost use Rattle.bl_ct.specs.SecretSearch.{IsFoundBy, IsTable, Searched, Some_asks, Some_fits, Visits, entry_at, from_name};

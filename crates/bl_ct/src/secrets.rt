@@ -4,7 +4,7 @@ ghost use Rattle.bl_base.specs.declared.names.Label.TheVariants as label;
 ghost use Rattle.bl_ct.specs.Facts.{HasNoSecrets, HasPublicParams};
 
 use bl_base::Label;
-use bl_cmd::{FunctionDef, GlobalDef, MemoryDef, ParamDef, ProgramParts};
+use bl_program::{FunctionDef, GlobalDef, MemoryDef, ParamDef, ProgramParts};
 
 /// Whether no global, no parameter and no memory is declared secret. Linear in the definitions; takes no memory.
 pub(crate) fn has_no_secrets(parts: &ProgramParts) -> bool

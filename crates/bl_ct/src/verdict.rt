@@ -11,8 +11,8 @@ use crate::facts::{Known, facts_of, vars_of};
 use crate::search::{Cause, Step, secret_variables};
 use crate::secrets::has_no_secrets;
 use bl_base::{Label, List, NoMemory, Pos};
-use bl_cmd::WellFormed;
 use bl_graph::{Graph, Names, Origin, SecretChain, names_of, variables};
+use bl_program::WellFormed;
 use std::alloc::Global;
 
 /// Whether some labelling of the variables keeps the label rules.

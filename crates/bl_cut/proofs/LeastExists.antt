@@ -10,8 +10,8 @@ use Rattle.bl_base.proofs.Sums.{sum_le, sum_plus, sum_tight, sum_bound}
 use Rattle.bl_base.proofs.BoolLemmas.{never_both}
 use Rattle.bl_base.proofs.Members.{first_in, later_in, in_cases, in_map, from_map, none_in}
 use Rattle.bl_base.proofs.Decisions.{Decided, decided_below, decided_both, decided_either, decided_false, decided_true, holds, holds_if, if_holds}
-use Rattle.bl_cmd.specs.Sites.{Among, site_weight, IsSite, Writes, SinkReads, sunk_by, weight_of}
-use Rattle.bl_cmd.specs.declared.definitions.ProgramParts.{ProgramParts as Program}
+use Rattle.bl_program.specs.Sites.{Among, site_weight, IsSite, Writes, SinkReads, sunk_by, weight_of}
+use Rattle.bl_program.specs.declared.definitions.ProgramParts.{ProgramParts as Program}
 use Rattle.bl_graph.specs.Ranges.{commands, variables, AreSites, AreInRange}
 use Rattle.bl_graph.proofs.PathCounts.{amount_if, once}
 use Rattle.bl_transient.specs.Transient.{Asked, AssignsUnder, PassesUnder, TransUnder, loaded, moved, given}

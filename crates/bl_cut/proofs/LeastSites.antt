@@ -5,8 +5,8 @@ use Rattle.std.proofs.lemmas.Bool.{cases_Bool, false≢true, not_from_false, not
 use Rattle.bl_base.proofs.Sums.{sum_change}
 use Rattle.bl_base.proofs.BoolLemmas.{never_both}
 use Rattle.bl_base.proofs.OptionLemmas.{some_value}
-use Rattle.bl_cmd.specs.Sites.{site_weight, Writes, weight_of}
-use Rattle.bl_cmd.specs.declared.definitions.ProgramParts.{ProgramParts as Program}
+use Rattle.bl_program.specs.Sites.{site_weight, Writes, weight_of}
+use Rattle.bl_program.specs.declared.definitions.ProgramParts.{ProgramParts as Program}
 use Rattle.bl_graph.specs.Ranges.{commands, AreSites, AreInRange}
 use Rattle.bl_graph.proofs.PathCounts.{amount_if}
 use Rattle.bl_graph.proofs.FedSites.{feeds, writes_stable, crossed_by, fed_load, fed_read, fed_how, stable_write, stable_how}

@@ -1,10 +1,10 @@
 -- A program's graph is its graph with other protects too.
 use Rattle.std.proofs.Common.{◌≡◌, ℕ, Bool, Option, Some, None, sym, subst}
 use Rattle.std.specs.Prelude.{◌↔◌, IsSomeAnd, List, option_map}
-use Rattle.bl_cmd.specs.Layout.{command_at}
-use Rattle.bl_cmd.specs.Sites.{Among, Loads, moved_by, sunk_by, written_by, Writes, Reads, SinkReads}
-use Rattle.bl_cmd.specs.declared.command.Command.{Command}
-use Rattle.bl_cmd.specs.declared.definitions.ProgramParts.{ProgramParts as Program}
+use Rattle.bl_program.specs.Layout.{command_at}
+use Rattle.bl_program.specs.Sites.{Among, Loads, moved_by, sunk_by, written_by, Writes, Reads, SinkReads}
+use Rattle.bl_program.specs.declared.command.Command.{Command}
+use Rattle.bl_program.specs.declared.definitions.ProgramParts.{ProgramParts as Program}
 use Rattle.bl_graph.specs.Graphs.{AreUses, IsGraph}
 use Rattle.bl_graph.specs.declared.facts.Graph.{Graph}
 use Rattle.bl_graph.specs.declared.facts.Use.{Use}

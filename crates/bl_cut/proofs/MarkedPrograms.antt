@@ -6,14 +6,14 @@ use Rattle.std.proofs.lemmas.Bool.{false≢true, cases_Bool}
 use Rattle.std.proofs.lemmas.List.Elements.{All-cons, All-nil, All-contains}
 use Rattle.bl_base.specs.Sums.{sum_below}
 use Rattle.bl_base.proofs.Sums.{sum_same}
-use Rattle.bl_cmd.specs.Layout.{command_at}
-use Rattle.bl_cmd.specs.Programs.{IsCommand, IsProgram}
-use Rattle.bl_cmd.specs.Rules.{IsWeight, IsWellFormed}
-use Rattle.bl_cmd.specs.Sites.{Among, Loads, mark_of, mark_at, moved_by, sunk_by, written_by, listed, site_weight, is_protected, weight_of, IsSite, IsLoad, Writes, Reads, SinkReads}
-use Rattle.bl_cmd.specs.declared.command.Mark.{Mark}
-use Rattle.bl_cmd.specs.declared.command.Command.{Command}
-use Rattle.bl_cmd.specs.declared.command.Command.TheVariants.{Set, Trap}
-use Rattle.bl_cmd.specs.declared.definitions.ProgramParts.{ProgramParts as Program}
+use Rattle.bl_program.specs.Layout.{command_at}
+use Rattle.bl_program.specs.Programs.{IsCommand, IsProgram}
+use Rattle.bl_program.specs.Rules.{IsWeight, IsWellFormed}
+use Rattle.bl_program.specs.Sites.{Among, Loads, mark_of, mark_at, moved_by, sunk_by, written_by, listed, site_weight, is_protected, weight_of, IsSite, IsLoad, Writes, Reads, SinkReads}
+use Rattle.bl_program.specs.declared.command.Mark.{Mark}
+use Rattle.bl_program.specs.declared.command.Command.{Command}
+use Rattle.bl_program.specs.declared.command.Command.TheVariants.{Set, Trap}
+use Rattle.bl_program.specs.declared.definitions.ProgramParts.{ProgramParts as Program}
 use Rattle.bl_cut.proofs.Remarked.{keeps_rules, still}
 use Rattle.bl_graph.specs.Certificates.{sites_of, IsFlowPath, CertifiesSet, Certifies}
 use Rattle.bl_graph.specs.Chains.{Carries, IsChain}

@@ -1,11 +1,11 @@
 -- What passes in a program passes in the one with other protects.
 use Rattle.std.proofs.Common.{◌≡◌, ℕ, Bool, Option, Some, None, sym, subst, ◌∙◌}
 use Rattle.std.specs.Prelude.{IsSomeAnd, option_map}
-use Rattle.bl_cmd.specs.Layout.{command_at}
-use Rattle.bl_cmd.specs.Sites.{Among, Loads, moved_by, sunk_by, written_by, IsLoad, Writes, Reads, SinkReads}
-use Rattle.bl_cmd.specs.declared.command.Command.{Command}
-use Rattle.bl_cmd.specs.declared.command.Command.TheVariants.{Set}
-use Rattle.bl_cmd.specs.declared.definitions.ProgramParts.{ProgramParts as Program}
+use Rattle.bl_program.specs.Layout.{command_at}
+use Rattle.bl_program.specs.Sites.{Among, Loads, moved_by, sunk_by, written_by, IsLoad, Writes, Reads, SinkReads}
+use Rattle.bl_program.specs.declared.command.Command.{Command}
+use Rattle.bl_program.specs.declared.command.Command.TheVariants.{Set}
+use Rattle.bl_program.specs.declared.definitions.ProgramParts.{ProgramParts as Program}
 use Rattle.bl_transient.specs.Transient.{Asked, FlowsUnder, Passes, nothing}
 use Rattle.bl_cut.specs.Marks.{marked, protected}
 use Rattle.bl_cut.proofs.MarkedPrograms.{moved_same, sunk_same, written_same}

@@ -6,8 +6,8 @@ use Rattle.std.proofs.lemmas.Bool.{eqb-true, false≢true, lt-ltb}
 use Rattle.std.proofs.lemmas.List.Elements.{All-contains}
 use Rattle.bl_base.specs.declared.number.Pos.{Pos}
 use Rattle.bl_base.proofs.Members.{from_map}
-use Rattle.bl_cmd.specs.Sites.{IsLoad, SinkReads, site_weight, weight_of}
-use Rattle.bl_cmd.specs.declared.definitions.ProgramParts.{ProgramParts as Program}
+use Rattle.bl_program.specs.Sites.{IsLoad, SinkReads, site_weight, weight_of}
+use Rattle.bl_program.specs.declared.definitions.ProgramParts.{ProgramParts as Program}
 use Rattle.bl_flow.specs.declared.network.NodePath.{NodePath}
 use Rattle.bl_flow.specs.declared.network.FlowResult.{FlowResult}
 use Rattle.bl_flow.specs.declared.network.LeastCut.{LeastCut}

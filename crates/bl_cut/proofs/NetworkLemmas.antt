@@ -7,8 +7,8 @@ use Rattle.std.proofs.lemmas.List.{take_more, get_or-set_same, get_or-set_other,
 use Rattle.std.proofs.lemmas.List.Elements.{All-contains, Contains-append_left, Contains-append_right, Contains-append_cases, Contains-push_cases}
 use Rattle.bl_base.specs.declared.number.Pos.{Pos}
 use Rattle.bl_base.proofs.Members.{in_map, from_map, none_in}
-use Rattle.bl_cmd.specs.Sites.{site_weight, IsSite, IsLoad, Writes, Reads}
-use Rattle.bl_cmd.specs.declared.definitions.ProgramParts.{ProgramParts as Program}
+use Rattle.bl_program.specs.Sites.{site_weight, IsSite, IsLoad, Writes, Reads}
+use Rattle.bl_program.specs.declared.definitions.ProgramParts.{ProgramParts as Program}
 use Rattle.bl_flow.specs.declared.network.Arc.{Arc}
 use Rattle.bl_graph.specs.Graphs.{use_of, IsGraph}
 use Rattle.bl_graph.specs.Names.{AreNames, place_of}

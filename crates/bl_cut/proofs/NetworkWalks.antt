@@ -4,8 +4,8 @@ use Rattle.std.specs.Prelude.{IsTrue}
 use Rattle.std.specs.List.{All, Contains}
 use Rattle.std.proofs.lemmas.Bool.{lt-ltb, le-ltb}
 use Rattle.std.proofs.lemmas.List.Elements.{All-push, All-nil}
-use Rattle.bl_cmd.specs.Sites.{IsLoad, Writes, Reads, SinkReads}
-use Rattle.bl_cmd.specs.declared.definitions.ProgramParts.{ProgramParts as Program}
+use Rattle.bl_program.specs.Sites.{IsLoad, Writes, Reads, SinkReads}
+use Rattle.bl_program.specs.declared.definitions.ProgramParts.{ProgramParts as Program}
 use Rattle.bl_flow.specs.Networks.{Walk, here, along, HasArc}
 use Rattle.bl_flow.specs.Cuts.{NearIn}
 use Rattle.bl_flow.specs.declared.network.Network.{Network}

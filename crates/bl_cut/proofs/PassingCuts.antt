@@ -8,8 +8,8 @@ use Rattle.bl_base.specs.Sums.{sum_below}
 use Rattle.bl_base.proofs.Sums.{sum_same, sum_front}
 use Rattle.bl_base.proofs.BoolLemmas.{never_both}
 use Rattle.bl_base.proofs.Members.{any_here, any_in, any_later, in_any}
-use Rattle.bl_cmd.specs.Sites.{IsSite, site_weight, weight_of}
-use Rattle.bl_cmd.specs.declared.definitions.ProgramParts.{ProgramParts as Program}
+use Rattle.bl_program.specs.Sites.{IsSite, site_weight, weight_of}
+use Rattle.bl_program.specs.declared.definitions.ProgramParts.{ProgramParts as Program}
 use Rattle.bl_flow.specs.declared.network.Arc.{Arc}
 use Rattle.bl_flow.specs.declared.network.Network.{Network}
 use Rattle.bl_flow.specs.Networks.{Walk, here, along, size, weight_at, InRange, total_weight}

@@ -5,16 +5,16 @@ use Rattle.std.proofs.Math.Path.{fun_ext}
 use Rattle.std.proofs.lemmas.Option.{none-some, same_Some}
 use Rattle.bl_base.specs.Runs.{EndsAfter, Outcome}
 use Rattle.bl_base.specs.declared.start.Start.{Start}
-use Rattle.bl_cmd.specs.Layout.{command_at, Holds}
-use Rattle.bl_cmd.specs.Outcomes.{opening, plain}
-use Rattle.bl_cmd.specs.Rules.{GoesTo, Leaves, IsMark, Rule4, Rule5, Rule6, Rule7, Rule8, Rule9, IsPassed, IsGuarded, Reach, reach_of, IsTested, IsGrowth, IsWellFormed}
-use Rattle.bl_cmd.specs.Steps.{Plain, perform, plain_step, ret}
-use Rattle.bl_cmd.specs.declared.command.Mark.{Mark}
-use Rattle.bl_cmd.specs.declared.command.Operand.{Operand}
-use Rattle.bl_cmd.specs.declared.command.Command.{Command}
-use Rattle.bl_cmd.specs.declared.command.Command.TheVariants.{Set, Load, Arg, Out, Ret}
-use Rattle.bl_cmd.specs.declared.definitions.ProgramParts.{ProgramParts as Program}
-use Rattle.bl_cmd.specs.declared.definitions.SiteWeight.{SiteWeight}
+use Rattle.bl_program.specs.Layout.{command_at, Holds}
+use Rattle.bl_program.specs.Outcomes.{opening, plain}
+use Rattle.bl_program.specs.Rules.{GoesTo, Leaves, IsMark, Rule4, Rule5, Rule6, Rule7, Rule8, Rule9, IsPassed, IsGuarded, Reach, reach_of, IsTested, IsGrowth, IsWellFormed}
+use Rattle.bl_program.specs.Steps.{Plain, perform, plain_step, ret}
+use Rattle.bl_program.specs.declared.command.Mark.{Mark}
+use Rattle.bl_program.specs.declared.command.Operand.{Operand}
+use Rattle.bl_program.specs.declared.command.Command.{Command}
+use Rattle.bl_program.specs.declared.command.Command.TheVariants.{Set, Load, Arg, Out, Ret}
+use Rattle.bl_program.specs.declared.definitions.ProgramParts.{ProgramParts as Program}
+use Rattle.bl_program.specs.declared.definitions.SiteWeight.{SiteWeight}
 
 -- ---- one command
 

@@ -3,8 +3,8 @@
 use Rattle.std.specs.Prelude.{◌≡◌, ◌⊎◌, ◌↔◌, ◌+◌, ℕ, IsTrue, length, List, Option, None, map, slice_get, unwrap_or}
 use Rattle.bl_base.specs.declared.number.Pos.{Pos}
 use Rattle.std.specs.List.{Contains}
-use Rattle.bl_cmd.specs.Sites.{IsLoad, Writes, Reads, SinkReads, site_weight}
-use Rattle.bl_cmd.specs.declared.definitions.ProgramParts.{ProgramParts as Program}
+use Rattle.bl_program.specs.Sites.{IsLoad, Writes, Reads, SinkReads, site_weight}
+use Rattle.bl_program.specs.declared.definitions.ProgramParts.{ProgramParts as Program}
 use Rattle.bl_flow.specs.Networks.{size, weight_at, HasArc}
 use Rattle.bl_flow.specs.declared.network.Arc.{Arc}
 use Rattle.bl_flow.specs.declared.network.Network.{Network}

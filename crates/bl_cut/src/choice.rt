@@ -1,7 +1,7 @@
 //! The least choice of protects.
 ghost use Rattle.std.specs.Prelude.{◌≡◌, ◌≤◌, ◌&&◌, ℕ, IfOk, length, nat_lt};
 ghost use Rattle.std.specs.FinSet as fin;
-ghost use Rattle.bl_cmd.specs.Sites.{weight_of};
+ghost use Rattle.bl_program.specs.Sites.{weight_of};
 ghost use Rattle.bl_flow.specs.Cuts.{cut_of};
 ghost use Rattle.bl_graph.specs.{Certificates.Certifies, Graphs.IsGraph};
 ghost use Rattle.bl_cut.specs.{Choices.IsFlowOf, Choices.KnowsSinks, Least.Least, Marks.protected, Network.IsNetwork};
@@ -9,9 +9,9 @@ ghost use Rattle.bl_cut.specs.{Choices.IsFlowOf, Choices.KnowsSinks, Least.Least
 use crate::network::network;
 use crate::walks::{read_back, sinks_by_variable};
 use bl_base::{List, NoMemory, Pos, SiteSet};
-use bl_cmd::WellFormed;
 use bl_flow::{FlowResult, LeastCut, Network, max_flow_of};
 use bl_graph::{Certificate, Graph, Names, graph, names_of, ranges};
+use bl_program::WellFormed;
 use std::alloc::Global;
 
 /// A set of sites to protect, its weight, and a flow that shows that no set of less weight passes.

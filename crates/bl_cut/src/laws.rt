@@ -1,8 +1,8 @@
 //! Laws of least sets, of cuts and of marks. Each function is its contract alone.
 ghost use Rattle.std.specs.Prelude.{◌≡◌, ◌↔◌, ◌<◌, ℕ, Bool, Contains, IsTrue, List, false};
 ghost use Rattle.bl_base.specs.{Runs.Outcome, declared.start.Start.Start};
-ghost use Rattle.bl_cmd.specs.{Outcomes.plain, declared.definitions.ProgramParts.ProgramParts};
-ghost use Rattle.bl_cmd.specs.Sites.{IsSite, Writes, is_protected, weight_of};
+ghost use Rattle.bl_program.specs.{Outcomes.plain, declared.definitions.ProgramParts.ProgramParts};
+ghost use Rattle.bl_program.specs.Sites.{IsSite, Writes, is_protected, weight_of};
 ghost use Rattle.bl_flow.specs.Cuts.{IsCut, NearIn, cut_weight};
 ghost use Rattle.bl_flow.specs.declared.network.Network.{Network as Net};
 ghost use Rattle.bl_graph.specs.{Graphs.IsGraph, declared.facts.Graph.Graph as Lists};

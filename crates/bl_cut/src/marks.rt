@@ -4,7 +4,7 @@ ghost use Rattle.std.specs.FinSet as fin;
 ghost use Rattle.bl_cut.specs.Marks.{guarded, marked, marked_from, protected};
 
 use bl_base::{List, Pos, SiteSet};
-use bl_cmd::{Command, Mark, ProgramParts, WellFormed};
+use bl_program::{Command, Mark, ProgramParts, WellFormed};
 
 /// The program in which exactly the sites of the set are protected; all else stays. What is no site is passed over. Linear in
 /// the commands, but for the logarithm of how many positions from 1,048,576 on the set has; takes no memory.

@@ -1,14 +1,14 @@
 //! The network of a program.
 ghost use Rattle.std.specs.Prelude.{◌≡◌, ◌+◌, ◌++◌, ◌<◌, ◌^◌, ◌↔◌, ℕ, All, AllPairs, Contains, IfOk, None, OnOk, length, map, replicate};
-ghost use Rattle.bl_cmd.specs.Sites.{IsSite, site_weight};
+ghost use Rattle.bl_program.specs.Sites.{IsSite, site_weight};
 ghost use Rattle.bl_graph.specs.{Graphs.IsGraph, Graphs.use_of, Names.AreNames, Names.place_of};
 ghost use Rattle.bl_transient.specs.Verdicts.{asked_of};
 ghost use Rattle.bl_cut.specs.Network.{AreReaders, Begins, IsNetworkUnder, noted, read_arc, sink_node, var_node, write_arc};
 
 use bl_base::{List, NoMemory};
-use bl_cmd::{WellFormed, site_weight};
 use bl_flow::{Arc, Network};
 use bl_graph::{Graph, Names, Read, SinkUse, Write, ranges};
+use bl_program::{WellFormed, site_weight};
 use bl_transient::{marked, numbers_of};
 use std::alloc::Global;
 

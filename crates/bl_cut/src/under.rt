@@ -1,7 +1,7 @@
 //! The least choice of protects where something is asked of variables.
 ghost use Rattle.std.specs.Prelude.{◌≡◌, ◌<◌, ℕ, All, Contains, IfOk};
 ghost use Rattle.std.specs.FinSet as fin;
-ghost use Rattle.bl_cmd.specs.Sites.{SinkReads, weight_of};
+ghost use Rattle.bl_program.specs.Sites.{SinkReads, weight_of};
 ghost use Rattle.bl_cut.specs.Least.{LeastUnder};
 ghost use Rattle.bl_graph.specs.{Graphs.IsGraph, Ranges.variables};
 ghost use Rattle.bl_transient.specs.Verdicts.{asked_of};
@@ -9,9 +9,9 @@ ghost use Rattle.bl_transient.specs.Verdicts.{asked_of};
 use crate::choice::cut_sites;
 use crate::network::network;
 use bl_base::{NoMemory, SiteSet};
-use bl_cmd::WellFormed;
 use bl_flow::least_cut_of;
 use bl_graph::{Graph, ranges};
+use bl_program::WellFormed;
 use bl_transient::{AskedOf, names_under};
 use std::alloc::Global;
 

@@ -1,7 +1,7 @@
 -- What stands between the exports and the commands, by the version.
 use Rattle.std.proofs.Common.{◌≡◌, ℕ, List, [], ◌∷◌, refl, arith}
-use Rattle.bl_cmd.specs.declared.definitions.Demand.{Demand}
-use Rattle.bl_cmd.specs.declared.definitions.SiteWeight.{SiteWeight}
+use Rattle.bl_program.specs.declared.definitions.Demand.{Demand}
+use Rattle.bl_program.specs.declared.definitions.SiteWeight.{SiteWeight}
 use Rattle.bl_leb.specs.Grammar.{◌⨾◌}
 use Rattle.bl_format.specs.Grammar.{vec}
 use Rattle.bl_format.specs.Image.{version, additions, weights, demand}

@@ -29,27 +29,27 @@ use Rattle.bl_ops.specs.declared.access.AccessKind.{AccessKind}
 use Rattle.bl_ops.specs.declared.access.AccessKind.TheVariants.{I32Load}
 use Rattle.bl_ops.specs.declared.op.Op.{Op}
 use Rattle.bl_ops.specs.declared.op.Op.TheVariants.{Move}
-use Rattle.bl_cmd.specs.Layout.{Holds, first_of, params_of, results_of, statics}
-use Rattle.bl_cmd.specs.Programs.{IsCommand, IsProgram, arity}
-use Rattle.bl_cmd.specs.Rules.{IsDemand, IsMark, IsMemory, IsOwn, IsReadable, IsWellFormed, IsWritable, Rule4, Rule5, Rule6, operands_of}
-use Rattle.bl_cmd.specs.Sites.{Among, Names, listed}
-use Rattle.bl_cmd.specs.declared.command.Command.{Command}
-use Rattle.bl_cmd.specs.declared.command.Command.TheVariants.{Set, Load, Store, Test, Jump, Arg, Call, Out, Ret, Trap}
-use Rattle.bl_cmd.specs.declared.command.Mark.{Mark}
-use Rattle.bl_cmd.specs.declared.command.Operand.{Operand}
-use Rattle.bl_cmd.specs.declared.command.Operand.TheVariants.{Var, Const}
-use Rattle.bl_cmd.specs.declared.definitions.Demand.{Demand}
-use Rattle.bl_cmd.specs.declared.definitions.Demand.TheVariants.{Result, Global}
-use Rattle.bl_cmd.specs.declared.definitions.ExportDef.{ExportDef}
-use Rattle.bl_cmd.specs.declared.definitions.FunctionDef.{FunctionDef}
-use Rattle.bl_cmd.specs.declared.definitions.GlobalDef.{GlobalDef}
-use Rattle.bl_cmd.specs.declared.definitions.MemRow.{MemRow}
-use Rattle.bl_cmd.specs.declared.definitions.MemoryDef.{MemoryDef}
-use Rattle.bl_cmd.specs.declared.definitions.ParamDef.{ParamDef}
-use Rattle.bl_cmd.specs.declared.definitions.ProgramParts.{ProgramParts as Program}
-use Rattle.bl_cmd.specs.declared.definitions.SiteWeight.{SiteWeight}
-use Rattle.bl_cmd.proofs.Layouts.{first_below, held_by, holds_within, number_is, own_exists, result_own}
-use Rattle.bl_cmd.specs.Widths.{HasByteWidths, HasConstants, HasWidth, HasWidths}
+use Rattle.bl_program.specs.Layout.{Holds, first_of, params_of, results_of, statics}
+use Rattle.bl_program.specs.Programs.{IsCommand, IsProgram, arity}
+use Rattle.bl_program.specs.Rules.{IsDemand, IsMark, IsMemory, IsOwn, IsReadable, IsWellFormed, IsWritable, Rule4, Rule5, Rule6, operands_of}
+use Rattle.bl_program.specs.Sites.{Among, Names, listed}
+use Rattle.bl_program.specs.declared.command.Command.{Command}
+use Rattle.bl_program.specs.declared.command.Command.TheVariants.{Set, Load, Store, Test, Jump, Arg, Call, Out, Ret, Trap}
+use Rattle.bl_program.specs.declared.command.Mark.{Mark}
+use Rattle.bl_program.specs.declared.command.Operand.{Operand}
+use Rattle.bl_program.specs.declared.command.Operand.TheVariants.{Var, Const}
+use Rattle.bl_program.specs.declared.definitions.Demand.{Demand}
+use Rattle.bl_program.specs.declared.definitions.Demand.TheVariants.{Result, Global}
+use Rattle.bl_program.specs.declared.definitions.ExportDef.{ExportDef}
+use Rattle.bl_program.specs.declared.definitions.FunctionDef.{FunctionDef}
+use Rattle.bl_program.specs.declared.definitions.GlobalDef.{GlobalDef}
+use Rattle.bl_program.specs.declared.definitions.MemRow.{MemRow}
+use Rattle.bl_program.specs.declared.definitions.MemoryDef.{MemoryDef}
+use Rattle.bl_program.specs.declared.definitions.ParamDef.{ParamDef}
+use Rattle.bl_program.specs.declared.definitions.ProgramParts.{ProgramParts as Program}
+use Rattle.bl_program.specs.declared.definitions.SiteWeight.{SiteWeight}
+use Rattle.bl_program.proofs.Layouts.{first_below, held_by, holds_within, number_is, own_exists, result_own}
+use Rattle.bl_program.specs.Widths.{HasByteWidths, HasConstants, HasWidth, HasWidths}
 use Rattle.bl_format.specs.Grammar.{each, each_after, gap, u32, u64, vec}
 use Rattle.bl_format.specs.Image.{Image, additions, command, command_code, definitions, demand, export, fields, function, global, image, label, magic, mark, memory, operand, param, row, value_type, weight, weights, label_code, type_code, version}
 use Rattle.bl_format.specs.WriterAnswers.{DefinitionsFit, FunctionFits, Rises}

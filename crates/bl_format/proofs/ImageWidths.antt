@@ -10,19 +10,19 @@ use Rattle.bl_leb.specs.Grammar.{Spellings, ◌⨾◌}
 use Rattle.bl_leb.proofs.Unsigned.{bounded}
 use Rattle.bl_ops.specs.declared.op.Op.{Op}
 use Rattle.bl_ops.specs.declared.op.Op.TheVariants.{Move}
-use Rattle.bl_cmd.specs.Programs.{IsProgram, IsZero, arity}
-use Rattle.bl_cmd.specs.declared.command.Command.{Command}
-use Rattle.bl_cmd.specs.declared.command.Command.TheVariants.{Set, Load, Store, Test, Arg, Out, Trap}
-use Rattle.bl_cmd.specs.declared.command.Operand.{Operand}
-use Rattle.bl_cmd.specs.declared.command.Operand.TheVariants as operands
-use Rattle.bl_cmd.specs.declared.definitions.Demand.{Demand}
-use Rattle.bl_cmd.specs.declared.definitions.ExportDef.{ExportDef}
-use Rattle.bl_cmd.specs.declared.definitions.MemRow.{MemRow}
-use Rattle.bl_cmd.specs.declared.definitions.MemoryDef.{MemoryDef}
-use Rattle.bl_cmd.specs.declared.definitions.ProgramParts.{ProgramParts as Program}
-use Rattle.bl_cmd.specs.declared.definitions.SiteWeight.{SiteWeight}
-use Rattle.bl_cmd.specs.Widths.{HasConstants, HasWidth, HasWidths}
-use Rattle.bl_cmd.proofs.AppendLemmas.{get_drop}
+use Rattle.bl_program.specs.Programs.{IsProgram, IsZero, arity}
+use Rattle.bl_program.specs.declared.command.Command.{Command}
+use Rattle.bl_program.specs.declared.command.Command.TheVariants.{Set, Load, Store, Test, Arg, Out, Trap}
+use Rattle.bl_program.specs.declared.command.Operand.{Operand}
+use Rattle.bl_program.specs.declared.command.Operand.TheVariants as operands
+use Rattle.bl_program.specs.declared.definitions.Demand.{Demand}
+use Rattle.bl_program.specs.declared.definitions.ExportDef.{ExportDef}
+use Rattle.bl_program.specs.declared.definitions.MemRow.{MemRow}
+use Rattle.bl_program.specs.declared.definitions.MemoryDef.{MemoryDef}
+use Rattle.bl_program.specs.declared.definitions.ProgramParts.{ProgramParts as Program}
+use Rattle.bl_program.specs.declared.definitions.SiteWeight.{SiteWeight}
+use Rattle.bl_program.specs.Widths.{HasConstants, HasWidth, HasWidths}
+use Rattle.bl_program.proofs.AppendLemmas.{get_drop}
 use Rattle.bl_format.specs.Grammar.{each, each_after, gap, u64}
 use Rattle.bl_format.specs.Image.{Image, additions, command, export, memory, operand, row, weight, weights}
 

@@ -1,6 +1,6 @@
 -- Operands one behind the other.
 use Rattle.std.proofs.Common.{ℕ, List, [], append-nil, sym, refl}
-use Rattle.bl_cmd.specs.declared.command.Operand.{Operand}
+use Rattle.bl_program.specs.declared.command.Operand.{Operand}
 use Rattle.bl_leb.specs.Grammar.{Spellings, ◌⨾◌, nothing}
 use Rattle.bl_format.specs.Image.{operand}
 

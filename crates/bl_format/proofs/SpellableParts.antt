@@ -6,21 +6,21 @@ use Rattle.std.proofs.lemmas.Bool.{false≢true}
 use Rattle.std.proofs.lemmas.List.{get_or-drop}
 use Rattle.std.proofs.lemmas.Option.{slice_get-get_or}
 use Rattle.bl_base.proofs.Lists.{all_get, within_get}
-use Rattle.bl_cmd.specs.Layout.{sum_before, results_of}
-use Rattle.bl_cmd.specs.Programs.{IsProgram}
-use Rattle.bl_cmd.specs.Rules.{IsWellFormed, IsMemory, IsFunction, IsDemand, Precedes, Rule2, Rule6}
-use Rattle.bl_cmd.specs.Sites.{listed, mark_of}
-use Rattle.bl_cmd.specs.declared.command.Command.{Command}
-use Rattle.bl_cmd.specs.declared.command.Command.TheVariants.{Set, Load, Arg, Out}
-use Rattle.bl_cmd.specs.declared.command.Mark.{Mark}
-use Rattle.bl_cmd.specs.declared.definitions.Demand.{Demand}
-use Rattle.bl_cmd.specs.declared.definitions.Demand.TheVariants.{Result, Global}
-use Rattle.bl_cmd.specs.declared.definitions.SiteWeight.{SiteWeight}
-use Rattle.bl_cmd.proofs.Layouts.{sum_more, sum_up, number_is, held_by}
-use Rattle.bl_cmd.specs.declared.definitions.FunctionDef.{FunctionDef}
-use Rattle.bl_cmd.specs.declared.definitions.MemRow.{MemRow}
-use Rattle.bl_cmd.specs.declared.definitions.MemoryDef.{MemoryDef}
-use Rattle.bl_cmd.specs.declared.definitions.ProgramParts.{ProgramParts as Program}
+use Rattle.bl_program.specs.Layout.{sum_before, results_of}
+use Rattle.bl_program.specs.Programs.{IsProgram}
+use Rattle.bl_program.specs.Rules.{IsWellFormed, IsMemory, IsFunction, IsDemand, Precedes, Rule2, Rule6}
+use Rattle.bl_program.specs.Sites.{listed, mark_of}
+use Rattle.bl_program.specs.declared.command.Command.{Command}
+use Rattle.bl_program.specs.declared.command.Command.TheVariants.{Set, Load, Arg, Out}
+use Rattle.bl_program.specs.declared.command.Mark.{Mark}
+use Rattle.bl_program.specs.declared.definitions.Demand.{Demand}
+use Rattle.bl_program.specs.declared.definitions.Demand.TheVariants.{Result, Global}
+use Rattle.bl_program.specs.declared.definitions.SiteWeight.{SiteWeight}
+use Rattle.bl_program.proofs.Layouts.{sum_more, sum_up, number_is, held_by}
+use Rattle.bl_program.specs.declared.definitions.FunctionDef.{FunctionDef}
+use Rattle.bl_program.specs.declared.definitions.MemRow.{MemRow}
+use Rattle.bl_program.specs.declared.definitions.MemoryDef.{MemoryDef}
+use Rattle.bl_program.specs.declared.definitions.ProgramParts.{ProgramParts as Program}
 use Rattle.bl_format.specs.WriterAnswers.{Rises, MemoryFits, DefinitionsFit, AdditionsFit, CommandFits, MarkFits}
 
 -- each is at most the sum

@@ -3,7 +3,7 @@ use Rattle.std.proofs.Common.{◌≡◌, ◌<◌, ◌+◌, ℕ, suc, List, [], �
 use Rattle.std.proofs.Math.Seq.{take-suc}
 use Rattle.bl_leb.specs.Grammar.{Spellings, ◌⨾◌}
 use Rattle.bl_format.specs.Grammar.{each_after}
-use Rattle.bl_cmd.specs.declared.definitions.MemRow.{MemRow}
+use Rattle.bl_program.specs.declared.definitions.MemRow.{MemRow}
 use Rattle.bl_format.specs.Image.{row}
 use Rattle.bl_format.specs.WriterAnswers.{Adds, HasLength}
 use Rattle.bl_format.proofs.Chains.{behind, one_more}

@@ -10,23 +10,23 @@ use Rattle.bl_ops.specs.Access.{access_code}
 use Rattle.bl_ops.specs.declared.access.AccessKind.{AccessKind}
 use Rattle.bl_ops.specs.declared.op.Op.{Op}
 use Rattle.bl_ops.specs.OperatorTable.{image_code_of}
-use Rattle.bl_cmd.specs.Programs.{arity, IsCommand, IsProgram}
-use Rattle.bl_cmd.specs.Rules.{IsMark}
-use Rattle.bl_cmd.specs.declared.command.Operand.{Operand}
-use Rattle.bl_cmd.specs.declared.command.Operand.TheVariants as operands
-use Rattle.bl_cmd.specs.declared.command.Mark.{Mark}
-use Rattle.bl_cmd.specs.declared.command.Command.{Command}
-use Rattle.bl_cmd.specs.declared.command.Command.TheVariants.{Set, Load, Store, Test, Jump, Arg, Call, Out, Ret, Trap}
-use Rattle.bl_cmd.specs.declared.definitions.Demand.{Demand}
-use Rattle.bl_cmd.specs.declared.definitions.Demand.TheVariants as demands
-use Rattle.bl_cmd.specs.declared.definitions.ExportDef.{ExportDef}
-use Rattle.bl_cmd.specs.declared.definitions.FunctionDef.{FunctionDef}
-use Rattle.bl_cmd.specs.declared.definitions.GlobalDef.{GlobalDef}
-use Rattle.bl_cmd.specs.declared.definitions.MemRow.{MemRow}
-use Rattle.bl_cmd.specs.declared.definitions.MemoryDef.{MemoryDef}
-use Rattle.bl_cmd.specs.declared.definitions.ParamDef.{ParamDef}
-use Rattle.bl_cmd.specs.declared.definitions.ProgramParts.{ProgramParts as Program}
-use Rattle.bl_cmd.specs.declared.definitions.SiteWeight.{SiteWeight}
+use Rattle.bl_program.specs.Programs.{arity, IsCommand, IsProgram}
+use Rattle.bl_program.specs.Rules.{IsMark}
+use Rattle.bl_program.specs.declared.command.Operand.{Operand}
+use Rattle.bl_program.specs.declared.command.Operand.TheVariants as operands
+use Rattle.bl_program.specs.declared.command.Mark.{Mark}
+use Rattle.bl_program.specs.declared.command.Command.{Command}
+use Rattle.bl_program.specs.declared.command.Command.TheVariants.{Set, Load, Store, Test, Jump, Arg, Call, Out, Ret, Trap}
+use Rattle.bl_program.specs.declared.definitions.Demand.{Demand}
+use Rattle.bl_program.specs.declared.definitions.Demand.TheVariants as demands
+use Rattle.bl_program.specs.declared.definitions.ExportDef.{ExportDef}
+use Rattle.bl_program.specs.declared.definitions.FunctionDef.{FunctionDef}
+use Rattle.bl_program.specs.declared.definitions.GlobalDef.{GlobalDef}
+use Rattle.bl_program.specs.declared.definitions.MemRow.{MemRow}
+use Rattle.bl_program.specs.declared.definitions.MemoryDef.{MemoryDef}
+use Rattle.bl_program.specs.declared.definitions.ParamDef.{ParamDef}
+use Rattle.bl_program.specs.declared.definitions.ProgramParts.{ProgramParts as Program}
+use Rattle.bl_program.specs.declared.definitions.SiteWeight.{SiteWeight}
 use Rattle.bl_leb.specs.Grammar.{Spellings, ◌⨾◌, nothing, exactly, byte, given}
 use Rattle.bl_format.specs.Grammar.{each, u32, u64, vec, rising}
 

@@ -1,14 +1,14 @@
 -- What a writer of a part of an image does, and how many bytes it writes.
 use Rattle.std.specs.Prelude.{◌≡◌, ◌≤◌, ◌<◌, ◌-◌, ◌^◌, ℕ, suc, All, List, [], ◌∷◌, ◌++◌, length, min}
-use Rattle.bl_cmd.specs.Programs.{IsCommand}
-use Rattle.bl_cmd.specs.Rules.{IsMark}
-use Rattle.bl_cmd.specs.declared.command.Command.{Command}
-use Rattle.bl_cmd.specs.declared.command.Command.TheVariants.{Set, Load, Arg, Out}
-use Rattle.bl_cmd.specs.declared.definitions.Demand.{Demand}
-use Rattle.bl_cmd.specs.declared.definitions.FunctionDef.{FunctionDef}
-use Rattle.bl_cmd.specs.declared.definitions.MemoryDef.{MemoryDef}
-use Rattle.bl_cmd.specs.declared.definitions.ProgramParts.{ProgramParts as Program}
-use Rattle.bl_cmd.specs.declared.definitions.SiteWeight.{SiteWeight}
+use Rattle.bl_program.specs.Programs.{IsCommand}
+use Rattle.bl_program.specs.Rules.{IsMark}
+use Rattle.bl_program.specs.declared.command.Command.{Command}
+use Rattle.bl_program.specs.declared.command.Command.TheVariants.{Set, Load, Arg, Out}
+use Rattle.bl_program.specs.declared.definitions.Demand.{Demand}
+use Rattle.bl_program.specs.declared.definitions.FunctionDef.{FunctionDef}
+use Rattle.bl_program.specs.declared.definitions.MemoryDef.{MemoryDef}
+use Rattle.bl_program.specs.declared.definitions.ProgramParts.{ProgramParts as Program}
+use Rattle.bl_program.specs.declared.definitions.SiteWeight.{SiteWeight}
 use Rattle.bl_leb.specs.Grammar.{Spellings}
 
 -- the new bytes are the old ones and then a spelling

@@ -6,7 +6,7 @@ ghost use Rattle.bl_format.specs.WriterAnswers.{Adds, CommandFits, HasLength};
 
 use crate::write::{Write, length_of_u32, write_byte};
 use bl_base::NoMemory;
-use bl_cmd::{Command, Operand, arity};
+use bl_program::{Command, Operand, arity};
 
 /// Appends the operands of a Set: as many as its operator takes.
 fn write_operands(

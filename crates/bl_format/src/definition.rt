@@ -5,7 +5,7 @@ ghost use Rattle.bl_format.specs.WriterAnswers.{FunctionFits, HasLength, MemoryF
 use crate::rising::{length_of_numbered, write_numbered};
 use crate::write::{Write, length_of_u32, length_of_u64, write_byte, write_u64};
 use bl_base::NoMemory;
-use bl_cmd::{Demand, ExportDef, FunctionDef, GlobalDef, MemoryDef, ParamDef};
+use bl_program::{Demand, ExportDef, FunctionDef, GlobalDef, MemoryDef, ParamDef};
 
 impl Write for GlobalDef {
     ghost written = { global };

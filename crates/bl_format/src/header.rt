@@ -2,7 +2,7 @@
 ghost use Rattle.std.specs.Prelude.{◌≡◌};
 ghost use Rattle.bl_format.specs.Image.{version};
 
-use bl_cmd::{Demand, SiteWeight};
+use bl_program::{Demand, SiteWeight};
 
 /// The first four bytes of an image.
 pub const MAGIC: [u8; 4] = [0x42, 0x4C, 0x49, 0x4D];

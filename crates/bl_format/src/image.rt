@@ -8,7 +8,7 @@ use crate::header::{MAGIC, version_of};
 use crate::rising::{length_of_numbered, write_numbered};
 use crate::write::{Write, length_of_count, length_of_each, write_byte, write_each, write_u64};
 use bl_base::{List, NoMemory};
-use bl_cmd::{Demand, ExportDef, FIRST_ENTRY, ProgramParts, SiteWeight, WellFormed};
+use bl_program::{Demand, ExportDef, FIRST_ENTRY, ProgramParts, SiteWeight, WellFormed};
 use std::alloc::Global;
 
 /// How many bytes the magic and the version have.

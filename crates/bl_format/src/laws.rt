@@ -1,8 +1,8 @@
 //! The law that programs have images. The function is its contract alone.
 ghost use Rattle.std.specs.Prelude.{ℕ, List};
 ghost use Rattle.bl_base.specs.Fits.{AreBytes};
-ghost use Rattle.bl_cmd.specs.{declared.definitions.ProgramParts.ProgramParts, Programs.IsProgram, Rules.IsWellFormed};
-ghost use Rattle.bl_cmd.specs.Widths.{HasByteWidths, HasWidths};
+ghost use Rattle.bl_program.specs.{declared.definitions.ProgramParts.ProgramParts, Programs.IsProgram, Rules.IsWellFormed};
+ghost use Rattle.bl_program.specs.Widths.{HasByteWidths, HasWidths};
 ghost use Rattle.bl_format.specs.Image.{Image};
 
 /// Each well-formed program whose numbers are of their widths has an image. Where its rows and names are of bytes, so is the image.

@@ -6,7 +6,7 @@ ghost use Rattle.bl_format.specs.WriterAnswers.{Adds, HasLength, Rises};
 
 use crate::write::{length_of_count, length_of_u64, write_u64};
 use bl_base::{List, NoMemory};
-use bl_cmd::{MemRow, SiteWeight};
+use bl_program::{MemRow, SiteWeight};
 
 /// What stands in an image behind a number that rises.
 pub trait Numbered: Drop {

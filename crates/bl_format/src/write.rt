@@ -1,15 +1,15 @@
 //! Writers of values that stand in images, and how many bytes they write.
 ghost use Rattle.std.specs.Prelude.{◌≡◌, ◌+◌, ◌<◌, ◌^◌, ℕ, List as Listed, All, OnOk, if◌then◌else◌, length};
-ghost use Rattle.bl_cmd.specs.Rules.{IsMark};
+ghost use Rattle.bl_program.specs.Rules.{IsMark};
 ghost use Rattle.bl_leb.specs.{Grammar.◌⨾◌, Grammar.byte, Numbers.IsUnsigned, Spellings.IsShortest};
 ghost use Rattle.bl_format.specs.Grammar.{each, vec, u32, u64};
 ghost use Rattle.bl_format.specs.Image.{value_type, label, operand, operand_fields, mark, operator, access, trap_kind, text};
 ghost use Rattle.bl_format.specs.WriterAnswers.{Adds, HasLength};
 
 use bl_base::{Label, List, NoMemory, Pos, Text, Trap, ValueType, Var};
-use bl_cmd::{Mark, Operand};
 use bl_leb::push_u64;
 use bl_ops::{AccessKind, Op, image_code};
+use bl_program::{Mark, Operand};
 
 /// What stands in an image, with its writer and how many bytes that writes.
 pub trait Write {

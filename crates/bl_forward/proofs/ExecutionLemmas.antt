@@ -6,11 +6,11 @@ use Rattle.std.specs.Option.{ok_or}
 use Rattle.bl_base.proofs.BoolLemmas.{each_true}
 use Rattle.bl_ops.specs.Access.{narrowed, width_of}
 use Rattle.bl_ops.proofs.Fits.{store_fits}
-use Rattle.bl_cmd.specs.Outcomes.{opening as plain_opening}
-use Rattle.bl_cmd.specs.Programs.{IsProgram}
-use Rattle.bl_cmd.specs.Rules.{IsWellFormed}
-use Rattle.bl_cmd.specs.Steps.{effective}
-use Rattle.bl_cmd.specs.declared.definitions.ProgramParts.{ProgramParts as Program}
+use Rattle.bl_program.specs.Outcomes.{opening as plain_opening}
+use Rattle.bl_program.specs.Programs.{IsProgram}
+use Rattle.bl_program.specs.Rules.{IsWellFormed}
+use Rattle.bl_program.specs.Steps.{effective}
+use Rattle.bl_program.specs.declared.definitions.ProgramParts.{ProgramParts as Program}
 use Rattle.bl_rob.specs.CallResults.{Executes, NeedsMemory, StepsBy, is_enabled_by, is_some}
 use Rattle.bl_rob.specs.LoadPolicies.{answer_as}
 use Rattle.bl_rob.specs.Machines.{State, become, directive_step, exec_entry, has_pending}

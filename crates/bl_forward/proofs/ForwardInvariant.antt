@@ -5,11 +5,11 @@ use Rattle.bl_base.specs.Bytes.{number_of}
 use Rattle.bl_base.specs.declared.start.Start.{Start}
 use Rattle.bl_ops.specs.Access.{extended, width_of}
 use Rattle.bl_ops.specs.declared.access.AccessKind.{AccessKind}
-use Rattle.bl_cmd.specs.Outcomes.{IsStart, opening as plain_opening}
-use Rattle.bl_cmd.specs.Programs.{IsProgram}
-use Rattle.bl_cmd.specs.Rules.{IsWellFormed}
-use Rattle.bl_cmd.specs.Steps.{Plain as PlainState, effective, loaded, written}
-use Rattle.bl_cmd.specs.declared.definitions.ProgramParts.{ProgramParts as Program}
+use Rattle.bl_program.specs.Outcomes.{IsStart, opening as plain_opening}
+use Rattle.bl_program.specs.Programs.{IsProgram}
+use Rattle.bl_program.specs.Rules.{IsWellFormed}
+use Rattle.bl_program.specs.Steps.{Plain as PlainState, effective, loaded, written}
+use Rattle.bl_program.specs.declared.definitions.ProgramParts.{ProgramParts as Program}
 use Rattle.bl_seq.proofs.OwnSteps.{Reached}
 use Rattle.bl_rob.specs.Machines.{State, Fetched, Straight, Branch, Nowhere, before, opening, directive_step, guards, has_pending, valued, visible_of}
 use Rattle.bl_rob.specs.Observations.{IsConsistent, after_by}

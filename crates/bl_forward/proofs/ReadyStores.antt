@@ -8,9 +8,9 @@ use Rattle.bl_base.proofs.ByteLemmas.{length-bytes_of}
 use Rattle.bl_ops.specs.Access.{narrowed, width_of}
 use Rattle.bl_ops.specs.declared.access.AccessKind.{AccessKind}
 use Rattle.bl_ops.proofs.Fits.{store_fits}
-use Rattle.bl_cmd.specs.Steps.{effective, overlay}
-use Rattle.bl_cmd.specs.declared.definitions.ProgramParts.{ProgramParts as Program}
-use Rattle.bl_cmd.proofs.ByteAgreement.{parts, overlay_other}
+use Rattle.bl_program.specs.Steps.{effective, overlay}
+use Rattle.bl_program.specs.declared.definitions.ProgramParts.{ProgramParts as Program}
+use Rattle.bl_program.proofs.ByteAgreement.{parts, overlay_other}
 use Rattle.bl_bytes.proofs.OverlayLemmas.{overlay_length, overlay_next}
 use Rattle.bl_rob.specs.declared.entry.Entry.{Entry}
 use Rattle.bl_rob.specs.declared.entry.Work.{Work}

@@ -5,8 +5,8 @@ use Rattle.std.specs.List.{fold}
 use Rattle.bl_base.specs.declared.start.Start.{Start}
 use Rattle.bl_ops.specs.Access.{extended, narrowed, width_of}
 use Rattle.bl_ops.specs.declared.access.AccessKind.{AccessKind}
-use Rattle.bl_cmd.specs.Steps.{effective, loaded}
-use Rattle.bl_cmd.specs.declared.definitions.ProgramParts.{ProgramParts as Program}
+use Rattle.bl_program.specs.Steps.{effective, loaded}
+use Rattle.bl_program.specs.declared.definitions.ProgramParts.{ProgramParts as Program}
 use Rattle.bl_rob.specs.LoadPolicies.{IsNoExec, told_as}
 use Rattle.bl_rob.specs.Machines.{State, opening, become, directive_step, guards, has_pending, valued, visible_of}
 use Rattle.bl_rob.specs.Observations.{Rules, Observed, observed_by, HasEqualObservationsBy}

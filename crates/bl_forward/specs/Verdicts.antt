@@ -1,5 +1,5 @@
 -- The verdict on a program: whether two runs from starts that agree in public are observed alike where stores are forwarded.
-use Rattle.bl_cmd.specs.declared.definitions.ProgramParts.{ProgramParts as Program}
+use Rattle.bl_program.specs.declared.definitions.ProgramParts.{ProgramParts as Program}
 use Rattle.bl_graph.specs.Labels.{ConstantTime}
 use Rattle.bl_graph.specs.SecretChains.{IsSecretChain}
 use Rattle.bl_sct.specs.Verdicts.{IsStable, IsUnstable}

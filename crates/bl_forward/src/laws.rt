@@ -1,8 +1,8 @@
 //! Laws of the machine that forwards stores. Each function is its contract alone.
 ghost use Rattle.std.specs.Prelude.{◌≡◌, ◌↔◌, ◌≤◌, ℕ, List};
 ghost use Rattle.bl_base.specs.declared.start.Start.{Start};
-ghost use Rattle.bl_cmd.specs.Outcomes.{Agree, IsStart, opening as plain_opening};
-ghost use Rattle.bl_cmd.specs.{Programs.IsProgram, Rules.IsWellFormed, Sites.is_protected, declared.definitions.ProgramParts.ProgramParts};
+ghost use Rattle.bl_program.specs.Outcomes.{Agree, IsStart, opening as plain_opening};
+ghost use Rattle.bl_program.specs.{Programs.IsProgram, Rules.IsWellFormed, Sites.is_protected, declared.definitions.ProgramParts.ProgramParts};
 ghost use Rattle.bl_graph.specs.Labels.{ConstantTime};
 ghost use Rattle.bl_rob.specs.{Machines.opening, Observations.IsConsistent, Observations.after_by, declared.directive.Directive.Directive};
 ghost use Rattle.bl_rob.specs.declared.entry.Entry.{Entry};

@@ -1,12 +1,12 @@
 //! Two runs of a function on the same directives, each from its own start.
 ghost use Rattle.std.specs.Prelude.{IfOk};
-ghost use Rattle.bl_cmd.specs.Outcomes.{IsStart};
+ghost use Rattle.bl_program.specs.Outcomes.{IsStart};
 ghost use Rattle.bl_forward.specs.SightTexts.{AreForwardedSideBySide};
 
 use crate::load::Forward;
 use crate::seen::Seen;
 use bl_base::{NoMemory, Start};
-use bl_cmd::WellFormed;
+use bl_program::WellFormed;
 use bl_rob::Directive;
 use bl_twin::{Compared, compare_by};
 use std::alloc::Global;

@@ -2,7 +2,7 @@
 use Rattle.std.proofs.Common.{ℕ, Bool, List, [], ◌∷◌, inl, inr}
 use Rattle.std.specs.Prelude.{IsTrue}
 use Rattle.bl_base.proofs.BoolLemmas.{never_both}
-use Rattle.bl_cmd.specs.declared.definitions.ProgramParts.{ProgramParts as Program}
+use Rattle.bl_program.specs.declared.definitions.ProgramParts.{ProgramParts as Program}
 use Rattle.bl_graph.specs.declared.secret.Origin.{Origin}
 use Rattle.bl_graph.specs.declared.secret.Origin.TheVariants.{Parameter, Global, Memory}
 use Rattle.bl_graph.specs.Labels.{AssignsLabels, KeepsLabelRules, Secret, declared, loaded, moved}

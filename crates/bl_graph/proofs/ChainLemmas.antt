@@ -8,8 +8,8 @@ use Rattle.bl_base.proofs.Sums.{sum_le}
 use Rattle.bl_base.proofs.BoolLemmas.{never_both}
 use Rattle.bl_base.proofs.OptionLemmas.{some_value}
 use Rattle.bl_base.proofs.Members.{any_here, any_later}
-use Rattle.bl_cmd.specs.Sites.{IsLoad, Writes, Reads, SinkReads, site_weight, weight_of}
-use Rattle.bl_cmd.specs.declared.definitions.ProgramParts.{ProgramParts as Program}
+use Rattle.bl_program.specs.Sites.{IsLoad, Writes, Reads, SinkReads, site_weight, weight_of}
+use Rattle.bl_program.specs.declared.definitions.ProgramParts.{ProgramParts as Program}
 use Rattle.bl_graph.specs.Ranges.{commands, AreSites, AreInRange}
 use Rattle.bl_graph.specs.Chains.{Carries, IsChain}
 use Rattle.bl_graph.specs.Certificates.{sites_of, flow_through, IsFlowPath, CertifiesSet}

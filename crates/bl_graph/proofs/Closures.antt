@@ -3,8 +3,8 @@ use Rattle.std.proofs.Common.{◌≡◌, ◌⊎◌, inl, inr, ℕ, zero, suc, �
 use Rattle.std.proofs.lemmas.Bool.{cases_eq}
 use Rattle.bl_base.proofs.Sums.{last_or_before}
 use Rattle.bl_base.proofs.Decisions.{Decided, decided_below, decided_either, decided_three}
-use Rattle.bl_cmd.specs.Sites.{Reads, Writes}
-use Rattle.bl_cmd.specs.declared.definitions.ProgramParts.{ProgramParts as Program}
+use Rattle.bl_program.specs.Sites.{Reads, Writes}
+use Rattle.bl_program.specs.declared.definitions.ProgramParts.{ProgramParts as Program}
 use Rattle.bl_graph.specs.Ranges.{commands}
 use Rattle.bl_graph.proofs.CommandLists.{decided_read, decided_write, stands_below}
 

@@ -7,14 +7,14 @@ use Rattle.std.proofs.lemmas.List.Elements.{Contains-append_cases, Contains-appe
 use Rattle.bl_base.proofs.Sums.{last_or_before}
 use Rattle.bl_base.proofs.Members.{first_in, from_map, in_cases, in_map, later_in, none_in}
 use Rattle.bl_base.proofs.Decisions.{Decided, decided_as, decided_in, decided_some}
-use Rattle.bl_cmd.proofs.TableLemmas.{and_some}
-use Rattle.bl_cmd.specs.Layout.{command_at}
-use Rattle.bl_cmd.specs.Sites.{Among, IsLoad, Loads, Reads, SinkReads, Writes, moved_by, sunk_by, written_by}
-use Rattle.bl_cmd.specs.declared.command.Command.{Command}
-use Rattle.bl_cmd.specs.declared.command.Command.TheVariants.{Load}
-use Rattle.bl_cmd.specs.declared.command.Operand.{Operand}
-use Rattle.bl_cmd.specs.declared.command.Operand.TheVariants.{Var, Const}
-use Rattle.bl_cmd.specs.declared.definitions.ProgramParts.{ProgramParts as Program}
+use Rattle.bl_base.proofs.OptionLemmas.{some_with}
+use Rattle.bl_program.specs.Layout.{command_at}
+use Rattle.bl_program.specs.Sites.{Among, IsLoad, Loads, Reads, SinkReads, Writes, moved_by, sunk_by, written_by}
+use Rattle.bl_program.specs.declared.command.Command.{Command}
+use Rattle.bl_program.specs.declared.command.Command.TheVariants.{Load}
+use Rattle.bl_program.specs.declared.command.Operand.{Operand}
+use Rattle.bl_program.specs.declared.command.Operand.TheVariants.{Var, Const}
+use Rattle.bl_program.specs.declared.definitions.ProgramParts.{ProgramParts as Program}
 use Rattle.bl_graph.specs.Graphs.{use_of}
 use Rattle.bl_graph.specs.Ranges.{commands}
 use Rattle.bl_graph.specs.declared.facts.Use.{Use}
@@ -74,7 +74,7 @@ decided_loads _ = inr (λ h. h)
 module _ (program : Program) (s : ℕ) where
   -- where something stands, a command does
   pub stands_below : (P : Command → Type 0) → IsSomeAnd (command_at program s) P → s < commands program
-  stands_below P h = let found = and_some P (command_at program s) h in slice_get_within program.commands s found.0 found.1
+  stands_below P h = let found = some_with (command_at program s) P h in slice_get_within program.commands s found.0 found.1
 
   pub decided_load : Decided (IsLoad program s)
   decided_load = decided_some Loads decided_loads (command_at program s)

@@ -1,8 +1,8 @@
 -- Sites that a typing feeds, and those that write a variable that is stable in it.
 use Rattle.std.proofs.Common.{◌≡◌, ℕ, Bool, true, false, ◌⊎◌, inl, inr, ◌&&◌}
 use Rattle.bl_base.proofs.Decisions.{Decided, decided_either, decided_false, decided_true, holds, holds_if, if_holds}
-use Rattle.bl_cmd.specs.Sites.{IsLoad, Writes, Reads}
-use Rattle.bl_cmd.specs.declared.definitions.ProgramParts.{ProgramParts as Program}
+use Rattle.bl_program.specs.Sites.{IsLoad, Writes, Reads}
+use Rattle.bl_program.specs.declared.definitions.ProgramParts.{ProgramParts as Program}
 use Rattle.bl_graph.proofs.CommandLists.{decided_load, decided_read, decided_write}
 
 module _ (program : Program) (t : ℕ → Bool) (s : ℕ) where

@@ -5,19 +5,19 @@ use Rattle.std.proofs.lemmas.Option.{none-some, slice_get-get_or, slice_get_with
 use Rattle.bl_base.proofs.Lists.{all_get}
 use Rattle.bl_base.specs.declared.number.Pos.{Pos}
 use Rattle.bl_base.specs.declared.number.Var.{Var}
-use Rattle.bl_cmd.specs.Layout.{first_of, entry_of, params_of, result, command_at, Holds}
-use Rattle.bl_cmd.specs.Programs.{IsProgram}
-use Rattle.bl_cmd.specs.Rules.{IsWellFormed, IsFunction}
-use Rattle.bl_cmd.specs.Sites.{Among, Loads, written_by, Writes, moved_by, sunk_by}
-use Rattle.bl_cmd.specs.declared.command.Command.{Command}
-use Rattle.bl_cmd.specs.declared.command.Operand.{Operand}
-use Rattle.bl_cmd.specs.declared.definitions.FunctionDef.{FunctionDef}
-use Rattle.bl_cmd.specs.declared.definitions.ProgramParts.{ProgramParts as Program}
-use Rattle.bl_cmd.proofs.Layouts.{number_is, next_first, next_entry, first_below, entry_below, sum_step}
+use Rattle.bl_base.proofs.OptionLemmas.{some_with}
+use Rattle.bl_program.specs.Layout.{first_of, entry_of, params_of, result, command_at, Holds}
+use Rattle.bl_program.specs.Programs.{IsProgram}
+use Rattle.bl_program.specs.Rules.{IsWellFormed, IsFunction}
+use Rattle.bl_program.specs.Sites.{Among, Loads, written_by, Writes, moved_by, sunk_by}
+use Rattle.bl_program.specs.declared.command.Command.{Command}
+use Rattle.bl_program.specs.declared.command.Operand.{Operand}
+use Rattle.bl_program.specs.declared.definitions.FunctionDef.{FunctionDef}
+use Rattle.bl_program.specs.declared.definitions.ProgramParts.{ProgramParts as Program}
+use Rattle.bl_program.proofs.Layouts.{number_is, next_first, next_entry, first_below, entry_below, sum_step}
 use Rattle.bl_graph.specs.Graphs.{use_of, AreUses, IsGraph}
 use Rattle.bl_graph.specs.UseLists.{AreBelow, ArePlacesBelow, AddsPlace, AddsRow, OperandAt, LoadAt}
 use Rattle.bl_graph.specs.declared.facts.Use.{Use}
-use Rattle.bl_graph.proofs.RangeLemmas.{there}
 use Rattle.bl_graph.proofs.UseRows.{place_yes, place_no, row_one, nothing_below, all_below}
 
 -- ---- operands
@@ -29,7 +29,7 @@ row_at operands commands at d lt x =
 
 pub operand_low : (operands : Command → List Operand) (commands : List Command) (bound : ℕ) → length commands ≤ bound → (position x : ℕ) → OperandAt operands commands position x → position < bound
 operand_low operands commands bound le position x h =
-    let found = there (slice_get commands position) (λ command. Among (operands command) x) h in
+    let found = some_with (slice_get commands position) (λ command. Among (operands command) x) h in
     let lt = slice_get_within commands position found.0 found.1 in
     omega arith
 
@@ -83,7 +83,7 @@ module _ (program : Program) (facts : IsProgram program) where
       let all : number ≡ length program.functions = omega arith in
       let end : entry_of program number ≡ entry_of program (length program.functions) = ap (entry_of program) all in
       all_below (Writes program) entry writes (λ position x h.
-      let found = there (command_at program position) (λ command. written_by program position command ≡ Some x) h in
+      let found = some_with (command_at program position) (λ command. written_by program position command ≡ Some x) h in
       let lt = slice_get_within program.commands position found.0 found.1 in
       let count = facts.lengths in
       omega arith) below
@@ -133,7 +133,7 @@ made_graph program commands loads writes reads sinks e are_loads are_writes are_
     record {
       loads = λ s. (
         (λ h. ((loads_.each s).0 h).1),
-        (λ h. (loads_.each s).1 (let found = there (command_at program s) Loads h in slice_get_within program.commands s found.0 found.1, h)),
+        (λ h. (loads_.each s).1 (let found = some_with (command_at program s) Loads h in slice_get_within program.commands s found.0 found.1, h)),
       );
       loads_rise = loads_.rise;
       writes = are_writes;

@@ -18,7 +18,7 @@ use Rattle.bl_graph.specs.Graphs.{use_of, IsGraph}
 use Rattle.bl_graph.specs.declared.facts.Graph.{Graph}
 use Rattle.bl_graph.specs.declared.facts.Use.{Use}
 use Rattle.bl_graph.proofs.ChainLemmas.{all_from}
-use Rattle.bl_cmd.specs.declared.definitions.ProgramParts.{ProgramParts as Program}
+use Rattle.bl_program.specs.declared.definitions.ProgramParts.{ProgramParts as Program}
 use Rattle.bl_graph.specs.Names.{AreNames, IsUsed, IsNamed, place_of, numbered, var_of}
 use Rattle.bl_graph.specs.Ranges.{commands, variables, AreInRange}
 

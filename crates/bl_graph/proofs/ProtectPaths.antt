@@ -9,8 +9,8 @@ use Rattle.std.proofs.Math.Nat.{mul-zero, mul-one}
 use Rattle.bl_base.proofs.Sums.{sum_tight}
 use Rattle.bl_base.proofs.OptionLemmas.{some_value}
 use Rattle.bl_base.proofs.Members.{first_in, later_in}
-use Rattle.bl_cmd.specs.Sites.{site_weight}
-use Rattle.bl_cmd.specs.declared.definitions.ProgramParts.{ProgramParts as Program}
+use Rattle.bl_program.specs.Sites.{site_weight}
+use Rattle.bl_program.specs.declared.definitions.ProgramParts.{ProgramParts as Program}
 use Rattle.bl_graph.specs.Ranges.{commands, AreSites, AreInRange}
 use Rattle.bl_graph.specs.Certificates.{sites_of, flow_through, flow_of, IsFlowPath, CertifiesSet}
 use Rattle.bl_graph.specs.declared.certificate.FlowPath.{FlowPath}

@@ -4,24 +4,20 @@ use Rattle.std.specs.Prelude.{IsSomeAnd, IsSome, option_map, option_and_then}
 use Rattle.std.proofs.lemmas.Bool.{cases_lt, false≢true}
 use Rattle.std.proofs.lemmas.Option.{none-some, slice_get_within, slice_get_past, same_Some}
 use Rattle.bl_base.proofs.Lists.{all_get, within_get}
-use Rattle.bl_cmd.specs.Layout.{command_at, param, result, running, params_of, results_of, statics, Holds}
-use Rattle.bl_cmd.specs.Programs.{IsProgram}
-use Rattle.bl_cmd.specs.Rules.{IsWellFormed, IsFunction, IsOwn, IsReadable, IsWritable, Rule4, Rule6, operands_of}
-use Rattle.bl_cmd.specs.Sites.{Among, Loads, mark_of, mark_at, moved_by, sunk_by, written_by, listed, site_weight, IsSite, Writes}
-use Rattle.bl_cmd.specs.declared.command.Mark.{Mark}
-use Rattle.bl_cmd.specs.declared.command.Command.{Command}
-use Rattle.bl_cmd.specs.declared.command.Command.TheVariants.{Set, Load, Arg, Out, Trap}
-use Rattle.bl_cmd.specs.declared.definitions.FunctionDef.{FunctionDef}
-use Rattle.bl_cmd.specs.declared.definitions.ProgramParts.{ProgramParts as Program}
-use Rattle.bl_cmd.proofs.SiteOperands.{moved_in, sunk_in}
-use Rattle.bl_cmd.proofs.Layouts.{number_is, next_first, first_below, held_by, running_is, result_own}
-use Rattle.bl_cmd.proofs.Totals.{site_exact}
+use Rattle.bl_base.proofs.OptionLemmas.{some_with}
+use Rattle.bl_program.specs.Layout.{command_at, param, result, running, params_of, results_of, statics, Holds}
+use Rattle.bl_program.specs.Programs.{IsProgram}
+use Rattle.bl_program.specs.Rules.{IsWellFormed, IsFunction, IsOwn, IsReadable, IsWritable, Rule4, Rule6, operands_of}
+use Rattle.bl_program.specs.Sites.{Among, Loads, mark_of, mark_at, moved_by, sunk_by, written_by, listed, site_weight, IsSite, Writes}
+use Rattle.bl_program.specs.declared.command.Mark.{Mark}
+use Rattle.bl_program.specs.declared.command.Command.{Command}
+use Rattle.bl_program.specs.declared.command.Command.TheVariants.{Set, Load, Arg, Out, Trap}
+use Rattle.bl_program.specs.declared.definitions.FunctionDef.{FunctionDef}
+use Rattle.bl_program.specs.declared.definitions.ProgramParts.{ProgramParts as Program}
+use Rattle.bl_program.proofs.SiteOperands.{moved_in, sunk_in}
+use Rattle.bl_program.proofs.Layouts.{number_is, next_first, first_below, held_by, running_is, result_own}
+use Rattle.bl_program.proofs.Totals.{site_exact}
 use Rattle.bl_graph.specs.Ranges.{commands, variables, AreInRange}
-
--- what stands at a position
-pub there : (o : Option Command) (P : Command → Type 0) → IsSomeAnd o P → (command : Command) × (o ≡ Some command) × P command
-there None P h = absurd h
-there (Some command) P h = (command, refl, h)
 
 -- ---- sites
 
@@ -99,7 +95,7 @@ module _ (program : Program) (facts : IsProgram program) (rules : IsWellFormed p
   own_small function x exists own = let high = own.1 in let up = first_below program (suc function) (omega arith) in omega arith
 
   any_own : (function x : ℕ) → IsOwn program function x → x < variables program
-  any_own function x own = own_small function x (Rattle.bl_cmd.proofs.Layouts.own_exists program function x own) own
+  any_own function x own = own_small function x (Rattle.bl_program.proofs.Layouts.own_exists program function x own) own
 
   readable_small : (function x : ℕ) → IsReadable program function x → x < variables program
   readable_small function x (inl low) = let up : statics program ≤ variables program = omega arith in omega arith
@@ -153,17 +149,17 @@ module _ (program : Program) (facts : IsProgram program) (rules : IsWellFormed p
 
   pub in_range : AreInRange program
   in_range = record {
-    loads = λ s load. let found = there (command_at program s) Loads load in marked_site program s found.0 found.1 (loading_marked found.0 found.2);
+    loads = λ s load. let found = some_with (command_at program s) Loads load in marked_site program s found.0 found.1 (loading_marked found.0 found.2);
     writes = λ s x writes.
-        let found = there (command_at program s) (λ command. written_by program s command ≡ Some x) writes in
+        let found = some_with (command_at program s) (λ command. written_by program s command ≡ Some x) writes in
         let marked = writing_marked program s found.0 x found.2 in
         let function = held s found.0 found.1 (inl marked) in
         (marked_site program s found.0 found.1 marked, written_small s function.0 x found.0 function.1 (rules.rule4 s function.0 found.0 function.1 found.1) (rules.rule6 s function.0 found.0 function.1 found.1) found.2);
     reads = λ s x reads.
-        let found = there (command_at program s) (λ command. Among (moved_by command) x) reads in
+        let found = some_with (command_at program s) (λ command. Among (moved_by command) x) reads in
         (marked_site program s found.0 found.1 (moving_marked found.0 x found.2), operand_small s found.0 x found.1 (moved_in found.0 x found.2));
     sinks = λ position x sink.
-        let found = there (command_at program position) (λ command. Among (sunk_by command) x) sink in
+        let found = some_with (command_at program position) (λ command. Among (sunk_by command) x) sink in
         (slice_get_within program.commands position found.0 found.1, operand_small position found.0 x found.1 (sunk_in found.0 x found.2));
     sites = site_within program;
     weights = λ s w e.

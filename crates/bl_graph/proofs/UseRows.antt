@@ -10,9 +10,9 @@ use Rattle.std.proofs.lemmas.List.Quantifiers.{all_pairs_push}
 use Rattle.bl_base.specs.declared.number.Pos.{Pos}
 use Rattle.bl_base.specs.declared.number.Var.{Var as Variable}
 use Rattle.bl_base.proofs.Members.{first_in, later_in, in_cases, none_in, in_map, from_map}
-use Rattle.bl_cmd.specs.Sites.{Names, Among}
-use Rattle.bl_cmd.specs.declared.command.Operand.{Operand}
-use Rattle.bl_cmd.specs.declared.command.Operand.TheVariants.{Var, Const}
+use Rattle.bl_program.specs.Sites.{Names, Among}
+use Rattle.bl_program.specs.declared.command.Operand.{Operand}
+use Rattle.bl_program.specs.declared.command.Operand.TheVariants.{Var, Const}
 use Rattle.bl_graph.specs.Graphs.{use_of, Precedes, AreUses}
 use Rattle.bl_graph.specs.UseLists.{AreBelow, ArePlacesBelow, AddsRow, IsLeastFrom, lower_of}
 use Rattle.bl_graph.specs.declared.facts.Use.{Use}

@@ -1,8 +1,8 @@
 -- The rules of certificates.
 use Rattle.std.specs.Prelude.{◌≡◌, ◌*◌, ◌<◌, ◌≤◌, ℕ, Bool, List, map, Some, nat_eq, sum_by, count_by}
 use Rattle.std.specs.List.{All}
-use Rattle.bl_cmd.specs.Sites.{is_protected, site_weight, weight_of}
-use Rattle.bl_cmd.specs.declared.definitions.ProgramParts.{ProgramParts as Program}
+use Rattle.bl_program.specs.Sites.{is_protected, site_weight, weight_of}
+use Rattle.bl_program.specs.declared.definitions.ProgramParts.{ProgramParts as Program}
 use Rattle.bl_graph.specs.Chains.{IsChain}
 use Rattle.bl_graph.specs.declared.certificate.FlowPath.{FlowPath}
 use Rattle.bl_graph.specs.declared.certificate.Certificate.{Certificate}

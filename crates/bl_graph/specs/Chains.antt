@@ -1,7 +1,7 @@
 -- Chains of sites from loads to sinks.
 use Rattle.std.specs.Prelude.{ℕ, List, [], ◌∷◌}
-use Rattle.bl_cmd.specs.Sites.{IsLoad, Writes, Reads, SinkReads}
-use Rattle.bl_cmd.specs.declared.definitions.ProgramParts.{ProgramParts as Program}
+use Rattle.bl_program.specs.Sites.{IsLoad, Writes, Reads, SinkReads}
+use Rattle.bl_program.specs.declared.definitions.ProgramParts.{ProgramParts as Program}
 
 -- from a variable on, each site in this order reads what the former wrote, and a sink reads what the last wrote
 abbrev pub Carries : Program → ℕ → List ℕ → ℕ → Type 0

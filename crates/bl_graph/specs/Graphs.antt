@@ -1,8 +1,8 @@
 -- What a program's graph lists.
 use Rattle.std.specs.Prelude.{◌≡◌, ◌⊎◌, ◌<◌, ◌↔◌, ℕ, List}
 use Rattle.std.specs.List.{AllPairs, Contains}
-use Rattle.bl_cmd.specs.Sites.{IsLoad, Writes, Reads, SinkReads}
-use Rattle.bl_cmd.specs.declared.definitions.ProgramParts.{ProgramParts as Program}
+use Rattle.bl_program.specs.Sites.{IsLoad, Writes, Reads, SinkReads}
+use Rattle.bl_program.specs.declared.definitions.ProgramParts.{ProgramParts as Program}
 use Rattle.bl_graph.specs.declared.facts.Use.{Use}
 use Rattle.bl_graph.specs.declared.facts.Graph.{Graph}
 

@@ -1,7 +1,7 @@
 -- The label rules: which variables are secret, and which have to be public.
 use Rattle.std.specs.Prelude.{ℕ, Bool, IsTrue, not}
-use Rattle.bl_cmd.specs.Sites.{Writes, Reads, SinkReads}
-use Rattle.bl_cmd.specs.declared.definitions.ProgramParts.{ProgramParts as Program}
+use Rattle.bl_program.specs.Sites.{Writes, Reads, SinkReads}
+use Rattle.bl_program.specs.declared.definitions.ProgramParts.{ProgramParts as Program}
 use Rattle.bl_graph.specs.Secrets.{Declares, LoadsSecret, Stores, Demands}
 use Rattle.bl_graph.specs.declared.secret.Origin.{Origin}
 

@@ -1,8 +1,8 @@
 -- The variables that commands name, and their places among these.
 use Rattle.std.specs.Prelude.{◌<◌, ◌⊎◌, ℕ, suc, nat_eq, if◌then◌else◌, List, [], ◌∷◌, Contains}
 use Rattle.std.specs.List.{All, AllPairs, range_with_len}
-use Rattle.bl_cmd.specs.Sites.{Writes, Reads, SinkReads}
-use Rattle.bl_cmd.specs.declared.definitions.ProgramParts.{ProgramParts as Program}
+use Rattle.bl_program.specs.Sites.{Writes, Reads, SinkReads}
+use Rattle.bl_program.specs.declared.definitions.ProgramParts.{ProgramParts as Program}
 use Rattle.bl_graph.specs.Graphs.{use_of}
 use Rattle.bl_graph.specs.Ranges.{variables}
 use Rattle.bl_graph.specs.declared.facts.Graph.{Graph}

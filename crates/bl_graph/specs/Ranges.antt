@@ -1,8 +1,8 @@
 -- In which ranges positions, variables and weights lie.
 use Rattle.std.specs.Prelude.{◌≡◌, ◌+◌, ◌^◌, ◌<◌, ℕ, Bool, true, IsTrue, length, Some}
-use Rattle.bl_cmd.specs.Layout.{first_of}
-use Rattle.bl_cmd.specs.Sites.{IsLoad, Writes, Reads, SinkReads, IsSite, site_weight, weight_of}
-use Rattle.bl_cmd.specs.declared.definitions.ProgramParts.{ProgramParts as Program}
+use Rattle.bl_program.specs.Layout.{first_of}
+use Rattle.bl_program.specs.Sites.{IsLoad, Writes, Reads, SinkReads, IsSite, site_weight, weight_of}
+use Rattle.bl_program.specs.declared.definitions.ProgramParts.{ProgramParts as Program}
 
 -- the number of a program's commands, and of its variables
 abbrev pub commands : Program → ℕ

@@ -2,9 +2,9 @@
 use Rattle.std.specs.Prelude.{◌≡◌, ◌⊎◌, ◌↔◌, ◌<◌, ◌≤◌, ℕ, List, [], ◌∷◌, ◌++◌, map, Option, Some, None, min, IsSomeAnd, slice_get}
 use Rattle.std.specs.List.{AllPairs, Contains}
 use Rattle.bl_base.specs.declared.number.Pos.{Pos}
-use Rattle.bl_cmd.specs.Sites.{Among, Loads}
-use Rattle.bl_cmd.specs.declared.command.Command.{Command}
-use Rattle.bl_cmd.specs.declared.command.Operand.{Operand}
+use Rattle.bl_program.specs.Sites.{Among, Loads}
+use Rattle.bl_program.specs.declared.command.Command.{Command}
+use Rattle.bl_program.specs.declared.command.Operand.{Operand}
 use Rattle.bl_graph.specs.Graphs.{use_of, Precedes}
 use Rattle.bl_graph.specs.declared.facts.Use.{Use}
 

@@ -1,7 +1,7 @@
 //! Laws of graphs and certificates. Each function is its contract alone.
 ghost use Rattle.std.specs.Prelude.{◌≡◌, ℕ, Bool, Contains, IsTrue};
-ghost use Rattle.bl_cmd.specs.{Programs.IsProgram, Rules.IsWellFormed, Sites.IsSite, Sites.Writes};
-ghost use Rattle.bl_cmd.specs.declared.definitions.ProgramParts.{ProgramParts};
+ghost use Rattle.bl_program.specs.{Programs.IsProgram, Rules.IsWellFormed, Sites.IsSite, Sites.Writes};
+ghost use Rattle.bl_program.specs.declared.definitions.ProgramParts.{ProgramParts};
 ghost use Rattle.bl_graph.specs.Certificates.{CertifiesSet, IsFlowPath, sites_of};
 ghost use Rattle.bl_graph.specs.{Graphs.IsGraph, Ranges.AreInRange, Ranges.AreSites, declared.certificate.Certificate.Certificate};
 ghost use Rattle.bl_graph.specs.{declared.certificate.FlowPath.FlowPath, declared.facts.Graph.Graph as Lists};

@@ -22,5 +22,5 @@ pub use flows::{flow_sum, flows_through};
 pub use listing::graph;
 pub use names::{Names, names_of};
 pub use secret::{Origin, SecretChain};
-pub use writes::{firsts_of, ranges, variables};
+pub use writes::{ranges, variables};
 pub use written::{no_entries, noted_at, written_free};

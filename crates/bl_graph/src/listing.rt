@@ -6,7 +6,7 @@ use crate::facts::Graph;
 use crate::reads::uses_of;
 use crate::writes::writes_of;
 use bl_base::NoMemory;
-use bl_cmd::WellFormed;
+use bl_program::WellFormed;
 use std::alloc::Global;
 
 /// The graph of a program, exactly. Linear in the program. Want of memory is the only error.

@@ -7,7 +7,7 @@ ghost use Rattle.bl_graph.specs.Names.{AreNames, IsNamed, numbered, place_of, va
 use crate::facts::{Graph, Use};
 use crate::writes::{ranges, variables};
 use bl_base::{NoMemory, Var};
-use bl_cmd::WellFormed;
+use bl_program::WellFormed;
 use std::alloc::Global;
 use std::borrow::CowSlice;
 use std::marker::Model;

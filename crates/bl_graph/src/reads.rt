@@ -1,12 +1,12 @@
 //! What commands read.
 ghost use Rattle.std.specs.Prelude.{◌≡◌, ◌<◌, ◌^◌, [], ◌∷◌, IfOk, OnOk, length, option_map};
-ghost use Rattle.bl_cmd.specs.Sites.{Among, Loads, Names, moved_by, sunk_by};
+ghost use Rattle.bl_program.specs.Sites.{Among, Loads, Names, moved_by, sunk_by};
 ghost use Rattle.bl_graph.specs.Graphs.{AreUses};
 ghost use Rattle.bl_graph.specs.UseLists.{AddsPlace, AddsRow, ArePlacesBelow, IsLeastFrom, LoadAt, OperandAt, lower_of};
 
 use crate::facts::Use;
 use bl_base::{List, NoMemory, Pos, Var};
-use bl_cmd::{Command, Operand};
+use bl_program::{Command, Operand};
 use std::alloc::Global;
 
 /// What a program's commands read. Loads rise in position, the other lists in position and then in variable.

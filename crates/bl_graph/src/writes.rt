@@ -1,13 +1,13 @@
 //! What sites write.
 ghost use Rattle.std.specs.Prelude.{◌≡◌, IfOk, OnOk, Some, option_map, suc};
-ghost use Rattle.bl_cmd.specs.Layout.{command_at, entry_of, statics, Holds};
-ghost use Rattle.bl_cmd.specs.{Rules.IsWellFormed, Sites.written_by, Sites.Writes};
+ghost use Rattle.bl_program.specs.Layout.{command_at, entry_of, Holds};
+ghost use Rattle.bl_program.specs.{Rules.IsWellFormed, Sites.written_by, Sites.Writes};
 ghost use Rattle.bl_graph.specs.{Graphs.AreUses, Ranges.AreInRange, Ranges.variables};
-ghost use Rattle.bl_graph.specs.{FirstVariables.IsRunning, FirstVariables.firsts_from, UseLists.AddsRow, UseLists.AreBelow};
+ghost use Rattle.bl_graph.specs.{FirstVariables.IsRunning, UseLists.AddsRow, UseLists.AreBelow};
 
 use crate::facts::Use;
 use bl_base::{List, NoMemory, Pos, Var};
-use bl_cmd::{Command, FIRST_ENTRY, ProgramParts, WellFormed};
+use bl_program::{Command, FIRST_ENTRY, ProgramParts, WellFormed, firsts_of};
 use std::alloc::Global;
 
 /// The number of a program's variables. Linear in its functions; takes no memory.
@@ -34,7 +34,7 @@ pub fn ranges(program: &WellFormed)
 pub(crate) struct Running<'p> {
     /// The program.
     parts: &'p ProgramParts,
-    /// The first variable of each function.
+    /// The first variable of each function, and the number of all variables.
     firsts: &'p [u32],
     /// The number of the function.
     number: usize,
@@ -47,13 +47,14 @@ pub(crate) fn writes_of(alloc: Global, program: &WellFormed) -> Result<List<Use>
     ensures { IfOk result (λ writes. AreUses (Writes program.now) writes) }
 {
     let parts = program.program().parts();
-    let firsts = firsts_of(alloc, parts)?;
+    let table = firsts_of(alloc, parts)?;
+    let firsts = table.as_slice();
     let mut writes = List::new(alloc);
     let mut entry = FIRST_ENTRY;
     for (number, function) in parts.functions.as_slice().iter().enumerate() {
         let running = Running {
             parts,
-            firsts: &firsts,
+            firsts,
             number,
             results: firsts[number] + function.params.len() as u32,
         };
@@ -62,20 +63,6 @@ pub(crate) fn writes_of(alloc: Global, program: &WellFormed) -> Result<List<Use>
         entry = end;
     }
     Ok(writes)
-}
-
-/// The first variable of each function. Linear in the functions. Want of memory is the only error.
-pub fn firsts_of(alloc: Global, parts: &ProgramParts) -> Result<Vec<u32>, NoMemory>
-    requires { IsWellFormed parts.now }
-    ensures { IfOk result (λ firsts. firsts.items ≡ firsts_from (statics parts.now) parts.now.functions) }
-{
-    let mut firsts = Vec::new(alloc);
-    let mut first = (parts.globals.len() + parts.memories.len()) as u32;
-    for function in parts.functions.as_slice() {
-        firsts.push(first)?;
-        first += function.vars;
-    }
-    Ok(firsts)
 }
 
 /// Appends what the sites of a function write, from its entry to its end.

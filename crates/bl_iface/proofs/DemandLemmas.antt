@@ -1,9 +1,9 @@
 -- The demands of both parts, put together.
 use Rattle.std.proofs.Common.{◌≡◌, List, [], ◌∷◌, ◌++◌, map, not, refl, ap, ◌∙◌, arith, append_assoc}
 use Rattle.std.specs.List.{filter}
-use Rattle.bl_cmd.specs.declared.definitions.Demand.{Demand}
-use Rattle.bl_cmd.specs.declared.definitions.Demand.TheVariants.{Result, Global}
-use Rattle.bl_cmd.specs.declared.definitions.ProgramParts.{ProgramParts as Program}
+use Rattle.bl_program.specs.declared.definitions.Demand.{Demand}
+use Rattle.bl_program.specs.declared.definitions.Demand.TheVariants.{Result, Global}
+use Rattle.bl_program.specs.declared.definitions.ProgramParts.{ProgramParts as Program}
 use Rattle.bl_iface.specs.JoinedProgram.{client_shift, demands_of, is_result, library_shift, moved_demand}
 use Rattle.bl_iface.specs.declared.shift.Shift.{Shift}
 

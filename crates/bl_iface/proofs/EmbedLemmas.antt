@@ -5,15 +5,15 @@ use Rattle.std.proofs.lemmas.Bool.{cases_lt}
 use Rattle.bl_base.specs.declared.number.Var.{Var as Var'}
 use Rattle.bl_ops.specs.declared.op.Op.{Op}
 use Rattle.bl_ops.specs.declared.op.Op.TheVariants.{I32Sub, I32GtU, Move, Outside}
-use Rattle.bl_cmd.specs.Layout.{statics, size_of, params_of, results_of, entry_of, command_at, Holds}
-use Rattle.bl_cmd.specs.Rules.{GoesTo, IsGrowth, IsGuarded, IsLocal, IsPassed, IsReadable, IsSum, IsTested, IsWritable, Leaves, Reach, Rule4, Rule5, Rule6, Rule7, Rule8, assigned_by, operands_of, variable}
-use Rattle.bl_cmd.specs.Sites.{Among, Names}
-use Rattle.bl_cmd.specs.declared.command.Command.{Command}
-use Rattle.bl_cmd.specs.declared.command.Command.TheVariants.{Set, Load, Store, Test, Jump, Arg, Call, Out}
-use Rattle.bl_cmd.specs.declared.command.Operand.{Operand}
-use Rattle.bl_cmd.specs.declared.command.Operand.TheVariants.{Var, Const}
-use Rattle.bl_cmd.specs.declared.definitions.MemoryDef.{MemoryDef}
-use Rattle.bl_cmd.specs.declared.definitions.ProgramParts.{ProgramParts as Program}
+use Rattle.bl_program.specs.Layout.{statics, size_of, params_of, results_of, entry_of, command_at, Holds}
+use Rattle.bl_program.specs.Rules.{GoesTo, IsGrowth, IsGuarded, IsLocal, IsPassed, IsReadable, IsSum, IsTested, IsWritable, Leaves, Reach, Rule4, Rule5, Rule6, Rule7, Rule8, assigned_by, operands_of, variable}
+use Rattle.bl_program.specs.Sites.{Among, Names}
+use Rattle.bl_program.specs.declared.command.Command.{Command}
+use Rattle.bl_program.specs.declared.command.Command.TheVariants.{Set, Load, Store, Test, Jump, Arg, Call, Out}
+use Rattle.bl_program.specs.declared.command.Operand.{Operand}
+use Rattle.bl_program.specs.declared.command.Operand.TheVariants.{Var, Const}
+use Rattle.bl_program.specs.declared.definitions.MemoryDef.{MemoryDef}
+use Rattle.bl_program.specs.declared.definitions.ProgramParts.{ProgramParts as Program}
 use Rattle.bl_iface.specs.JoinedProgram.{Renaming, operand_by, renamed}
 
 -- a part stands in a whole: its functions, its positions and its variables by their new numbers

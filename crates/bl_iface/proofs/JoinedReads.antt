@@ -8,13 +8,13 @@ use Rattle.std.proofs.lemmas.List.{length-map}
 use Rattle.std.proofs.lemmas.List.Elements.{All-drop, All-get_or, All-head, All-tail}
 use Rattle.std.proofs.lemmas.Option.{none-some, same_Some}
 use Rattle.bl_base.specs.declared.names.ValueType.{ValueType}
-use Rattle.bl_cmd.specs.Layout.{statics, params_of, results_of, result}
-use Rattle.bl_cmd.specs.Programs.{IsProgram}
-use Rattle.bl_cmd.specs.Rules.{IsLocal, IsOwn, IsReadable, IsResult, IsWellFormed, IsWritable}
-use Rattle.bl_cmd.specs.declared.definitions.ExportDef.{ExportDef}
-use Rattle.bl_cmd.specs.declared.definitions.FunctionDef.{FunctionDef}
-use Rattle.bl_cmd.specs.declared.definitions.ProgramParts.{ProgramParts as Program}
-use Rattle.bl_cmd.proofs.Layouts.{first_below, holding_is, own_exists}
+use Rattle.bl_program.specs.Layout.{statics, params_of, results_of, result}
+use Rattle.bl_program.specs.Programs.{IsProgram}
+use Rattle.bl_program.specs.Rules.{IsLocal, IsOwn, IsReadable, IsResult, IsWellFormed, IsWritable}
+use Rattle.bl_program.specs.declared.definitions.ExportDef.{ExportDef}
+use Rattle.bl_program.specs.declared.definitions.FunctionDef.{FunctionDef}
+use Rattle.bl_program.specs.declared.definitions.ProgramParts.{ProgramParts as Program}
+use Rattle.bl_program.proofs.Layouts.{first_below, holding_is, own_exists}
 use Rattle.bl_iface.specs.JoinedProgram.{HasSameTypes, client_numbers, client_read, client_shift, exported, goes, goes_by, joined, library_numbers, library_shift, moved_var, owner, result_from, types_of}
 use Rattle.bl_iface.specs.declared.iface.FnIface.{FnIface}
 use Rattle.bl_iface.specs.declared.iface.Iface.{Iface}

@@ -2,12 +2,12 @@
 use Rattle.std.proofs.Common.{◌≡◌, inl, inr, ℕ, ◌+◌, ◌≤◌, length, Some, sym, ◌∙◌, subst, refl, arith}
 use Rattle.std.specs.List.{All}
 use Rattle.std.proofs.lemmas.Option.{slice_get_within}
-use Rattle.bl_cmd.specs.Layout.{command_at, Holds}
-use Rattle.bl_cmd.specs.Programs.{IsProgram}
-use Rattle.bl_cmd.specs.Rules.{IsWellFormed, Rule4, Rule5, Rule6, Rule7, Rule8}
-use Rattle.bl_cmd.specs.declared.command.Command.{Command}
-use Rattle.bl_cmd.specs.declared.definitions.ProgramParts.{ProgramParts as Program}
-use Rattle.bl_cmd.proofs.Layouts.{held_by, holds_apart}
+use Rattle.bl_program.specs.Layout.{command_at, Holds}
+use Rattle.bl_program.specs.Programs.{IsProgram}
+use Rattle.bl_program.specs.Rules.{IsWellFormed, Rule4, Rule5, Rule6, Rule7, Rule8}
+use Rattle.bl_program.specs.declared.command.Command.{Command}
+use Rattle.bl_program.specs.declared.definitions.ProgramParts.{ProgramParts as Program}
+use Rattle.bl_program.proofs.Layouts.{held_by, holds_apart}
 use Rattle.bl_iface.specs.JoinedProgram.{HasSameTypes, Renaming, client_numbers, client_shift, joined, library_numbers, library_shift, renamed}
 use Rattle.bl_iface.specs.declared.shift.Shift.{Shift}
 use Rattle.bl_iface.specs.declared.iface.Iface.{Iface}

@@ -6,16 +6,16 @@ use Rattle.bl_base.proofs.Lists.{all_get, within_get}
 use Rattle.bl_base.specs.declared.names.Flow.{Flow}
 use Rattle.bl_base.specs.declared.names.Flow.TheVariants.{Stable, Transient}
 use Rattle.bl_base.specs.declared.names.Role.TheVariants.{Client, Library}
-use Rattle.bl_cmd.specs.Layout.{first_of, statics, param, params_of, result, results_of, command_at}
-use Rattle.bl_cmd.specs.Programs.{IsProgram}
-use Rattle.bl_cmd.specs.Rules.{IsOwn, IsFunction, IsResult, IsWellFormed, Rule2}
-use Rattle.bl_cmd.specs.Sites.{is_protected}
-use Rattle.bl_cmd.specs.declared.command.Command.{Command}
-use Rattle.bl_cmd.specs.declared.command.Mark.{Mark}
-use Rattle.bl_cmd.specs.declared.definitions.ProgramParts.{ProgramParts as Program}
-use Rattle.bl_cmd.specs.declared.definitions.FunctionDef.{FunctionDef}
-use Rattle.bl_cmd.proofs.Layouts.{next_first, number_is, result_own}
-use Rattle.bl_cmd.proofs.VariableBounds.{own_small, readable_small}
+use Rattle.bl_program.specs.Layout.{first_of, statics, param, params_of, result, results_of, command_at}
+use Rattle.bl_program.specs.Programs.{IsProgram}
+use Rattle.bl_program.specs.Rules.{IsOwn, IsFunction, IsResult, IsWellFormed, Rule2}
+use Rattle.bl_program.specs.Sites.{is_protected}
+use Rattle.bl_program.specs.declared.command.Command.{Command}
+use Rattle.bl_program.specs.declared.command.Mark.{Mark}
+use Rattle.bl_program.specs.declared.definitions.ProgramParts.{ProgramParts as Program}
+use Rattle.bl_program.specs.declared.definitions.FunctionDef.{FunctionDef}
+use Rattle.bl_program.proofs.Layouts.{next_first, number_is, result_own}
+use Rattle.bl_program.proofs.VariableBounds.{own_small, readable_small}
 use Rattle.bl_transient.specs.Transient.{Flows}
 use Rattle.bl_iface.specs.JoinedProgram.{CanJoin, Renaming, client_numbers, client_shift, exported, goes, joined, library_numbers, library_shift, moved_var, owner}
 use Rattle.bl_iface.specs.declared.shift.Shift.{Shift}

@@ -8,15 +8,15 @@ use Rattle.std.proofs.lemmas.Option.{slice_get_past}
 use Rattle.bl_base.specs.Sums.{sum_below}
 use Rattle.bl_base.proofs.Sums.{sum_none, sum_same}
 use Rattle.bl_base.proofs.PairwiseLemmas.{find_left, find_right, find_map}
-use Rattle.bl_cmd.specs.Layout.{command_at}
-use Rattle.bl_cmd.specs.Programs.{IsProgram}
-use Rattle.bl_cmd.specs.Rules.{IsWeight, IsWellFormed}
-use Rattle.bl_cmd.specs.Sites.{IsSite, listed, mark_at, mark_of, site_weight, weight_of}
-use Rattle.bl_cmd.specs.declared.command.Command.{Command}
-use Rattle.bl_cmd.specs.declared.command.Command.TheVariants.{Set}
-use Rattle.bl_cmd.specs.declared.command.Mark.{Mark}
-use Rattle.bl_cmd.specs.declared.definitions.ProgramParts.{ProgramParts as Program}
-use Rattle.bl_cmd.specs.declared.definitions.SiteWeight.{SiteWeight}
+use Rattle.bl_program.specs.Layout.{command_at}
+use Rattle.bl_program.specs.Programs.{IsProgram}
+use Rattle.bl_program.specs.Rules.{IsWeight, IsWellFormed}
+use Rattle.bl_program.specs.Sites.{IsSite, listed, mark_at, mark_of, site_weight, weight_of}
+use Rattle.bl_program.specs.declared.command.Command.{Command}
+use Rattle.bl_program.specs.declared.command.Command.TheVariants.{Set}
+use Rattle.bl_program.specs.declared.command.Mark.{Mark}
+use Rattle.bl_program.specs.declared.definitions.ProgramParts.{ProgramParts as Program}
+use Rattle.bl_program.specs.declared.definitions.SiteWeight.{SiteWeight}
 use Rattle.bl_iface.specs.JoinedProgram.{Renaming, client_numbers, joined, library_numbers, library_shift, moved_position, pos_by, renamed}
 use Rattle.bl_iface.specs.declared.iface.Iface.{Iface}
 use Rattle.bl_iface.proofs.ShiftedPart.{moved_above}

@@ -12,21 +12,21 @@ use Rattle.bl_base.specs.declared.quantity.Quantity.TheVariants as quantity
 use Rattle.bl_base.specs.declared.names.Label.TheVariants.{Public}
 use Rattle.bl_base.proofs.PairwiseLemmas.{Unlike, apart_from_pairs, cross, pairs_append, pairs_from_apart, pairs_map, passes, some_within}
 use Rattle.bl_ops.specs.declared.op.Op.{Op}
-use Rattle.bl_cmd.specs.Layout.{first_of, entry_of, results_of}
-use Rattle.bl_cmd.specs.Programs.{ArePadded, IsCommand, IsProgram}
-use Rattle.bl_cmd.specs.Sites.{weight_of}
-use Rattle.bl_cmd.specs.Rules.{IsDemand, IsFunction, IsMemory, IsWeight, IsWellFormed, Precedes, Rule1, Rule2, Rule3, Rule9}
-use Rattle.bl_cmd.specs.declared.command.Command.{Command}
-use Rattle.bl_cmd.specs.declared.command.Command.TheVariants.{Set, Load, Store}
-use Rattle.bl_cmd.specs.declared.command.Operand.{Operand}
-use Rattle.bl_cmd.specs.declared.definitions.Demand.{Demand}
-use Rattle.bl_cmd.specs.declared.definitions.Demand.TheVariants as demand
-use Rattle.bl_cmd.specs.declared.definitions.ExportDef.{ExportDef}
-use Rattle.bl_cmd.specs.declared.definitions.GlobalDef.{GlobalDef}
-use Rattle.bl_cmd.specs.declared.definitions.MemoryDef.{MemoryDef}
-use Rattle.bl_cmd.specs.declared.definitions.SiteWeight.{SiteWeight}
-use Rattle.bl_cmd.specs.declared.definitions.ProgramParts.{ProgramParts as Program}
-use Rattle.bl_cmd.proofs.AppendLemmas.{get_left, get_right, sum_right}
+use Rattle.bl_program.specs.Layout.{first_of, entry_of, results_of}
+use Rattle.bl_program.specs.Programs.{ArePadded, IsCommand, IsProgram}
+use Rattle.bl_program.specs.Sites.{weight_of}
+use Rattle.bl_program.specs.Rules.{IsDemand, IsFunction, IsMemory, IsWeight, IsWellFormed, Precedes, Rule1, Rule2, Rule3, Rule9}
+use Rattle.bl_program.specs.declared.command.Command.{Command}
+use Rattle.bl_program.specs.declared.command.Command.TheVariants.{Set, Load, Store}
+use Rattle.bl_program.specs.declared.command.Operand.{Operand}
+use Rattle.bl_program.specs.declared.definitions.Demand.{Demand}
+use Rattle.bl_program.specs.declared.definitions.Demand.TheVariants as demand
+use Rattle.bl_program.specs.declared.definitions.ExportDef.{ExportDef}
+use Rattle.bl_program.specs.declared.definitions.GlobalDef.{GlobalDef}
+use Rattle.bl_program.specs.declared.definitions.MemoryDef.{MemoryDef}
+use Rattle.bl_program.specs.declared.definitions.SiteWeight.{SiteWeight}
+use Rattle.bl_program.specs.declared.definitions.ProgramParts.{ProgramParts as Program}
+use Rattle.bl_program.proofs.AppendLemmas.{get_left, get_right, sum_right}
 use Rattle.bl_iface.specs.JoinedProgram.{CanJoin, reserve_of, Renaming, client_numbers, is_result, joined, kept, library_numbers, library_shift, moved_demand, moved_position, pos_by, operand_by, renamed}
 use Rattle.bl_iface.specs.declared.iface.Iface.{Iface}
 use Rattle.bl_iface.specs.declared.limits.Sum.{Sum}

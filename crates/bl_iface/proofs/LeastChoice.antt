@@ -2,8 +2,8 @@
 use Rattle.std.proofs.Common.{inl, inr, ℕ, Bool}
 use Rattle.bl_base.proofs.BoolLemmas.{never_both}
 use Rattle.bl_base.specs.declared.names.Role.{Role}
-use Rattle.bl_cmd.specs.declared.definitions.ProgramParts.{ProgramParts as Program}
-use Rattle.bl_cmd.specs.Rules.{IsWellFormed}
+use Rattle.bl_program.specs.declared.definitions.ProgramParts.{ProgramParts as Program}
+use Rattle.bl_program.specs.Rules.{IsWellFormed}
 use Rattle.bl_cut.specs.Least.{LeastUnder}
 use Rattle.bl_cut.proofs.LeastExists.{some_least}
 use Rattle.bl_graph.specs.Ranges.{AreInRange}

@@ -4,18 +4,18 @@ use Rattle.std.specs.List.{All}
 use Rattle.std.proofs.lemmas.List.{length-drop, take_all}
 use Rattle.std.proofs.lemmas.Option.{slice_get_within}
 use Rattle.bl_base.proofs.Lists.{all_from}
-use Rattle.bl_cmd.specs.Layout.{first_of, Holds}
-use Rattle.bl_cmd.specs.Programs.{IsProgram}
-use Rattle.bl_cmd.specs.Rules.{IsWellFormed, Rule4, Rule5, Rule6, operands_of}
-use Rattle.bl_cmd.specs.Sites.{Among, Names}
-use Rattle.bl_cmd.specs.declared.command.Command.{Command}
-use Rattle.bl_cmd.specs.declared.command.Command.TheVariants.{Set, Load, Store, Test, Jump, Arg, Call, Out, Ret, Trap}
-use Rattle.bl_cmd.specs.declared.command.Operand.{Operand}
-use Rattle.bl_cmd.specs.declared.command.Operand.TheVariants.{Var, Const}
-use Rattle.bl_cmd.specs.declared.definitions.ProgramParts.{ProgramParts as Program}
-use Rattle.bl_cmd.proofs.Layouts.{held_by, holds_within}
-use Rattle.bl_cmd.proofs.AppendLemmas.{get_drop}
-use Rattle.bl_cmd.proofs.VariableBounds.{readable_small, writable_small}
+use Rattle.bl_program.specs.Layout.{first_of, Holds}
+use Rattle.bl_program.specs.Programs.{IsProgram}
+use Rattle.bl_program.specs.Rules.{IsWellFormed, Rule4, Rule5, Rule6, operands_of}
+use Rattle.bl_program.specs.Sites.{Among, Names}
+use Rattle.bl_program.specs.declared.command.Command.{Command}
+use Rattle.bl_program.specs.declared.command.Command.TheVariants.{Set, Load, Store, Test, Jump, Arg, Call, Out, Ret, Trap}
+use Rattle.bl_program.specs.declared.command.Operand.{Operand}
+use Rattle.bl_program.specs.declared.command.Operand.TheVariants.{Var, Const}
+use Rattle.bl_program.specs.declared.definitions.ProgramParts.{ProgramParts as Program}
+use Rattle.bl_program.proofs.Layouts.{held_by, holds_within}
+use Rattle.bl_program.proofs.AppendLemmas.{get_drop}
+use Rattle.bl_program.proofs.VariableBounds.{readable_small, writable_small}
 use Rattle.bl_iface.specs.JoinedProgram.{CanJoin, client_shift, library_shift}
 use Rattle.bl_iface.specs.MovableNumbers.{IsMovable, IsNear, IsSmall, IsSmallOperand}
 use Rattle.bl_iface.specs.declared.iface.Iface.{Iface}

@@ -17,7 +17,7 @@ use Rattle.std.proofs.lemmas.Option.{none-some}
 use Rattle.std.proofs.lemmas.Slice.Eq.{bytes_eq-Decides}
 use Rattle.bl_base.proofs.Lists.{rest_at}
 use Rattle.bl_base.proofs.NameSets.{by_bytes}
-use Rattle.bl_cmd.specs.declared.definitions.ExportDef.{ExportDef}
+use Rattle.bl_program.specs.declared.definitions.ExportDef.{ExportDef}
 use Rattle.bl_iface.specs.JoinedProgram.{IsNew, exported, is_named}
 use Rattle.bl_iface.specs.Names.{AreNames, IsDirectory, at_name}
 use Rattle.bl_iface.specs.declared.iface.FnIface.{FnIface}

@@ -2,11 +2,11 @@
 use Rattle.std.proofs.Common.{◌≡◌, inl, inr, ℕ, ◌+◌, ◌<◌, ◌^◌, List, [], length, Option, Some, None, refl, sym, ap, ◌∙◌, subst, arith}
 use Rattle.std.specs.Prelude.{option_map, unwrap_or}
 use Rattle.std.proofs.lemmas.Option.{none-some}
-use Rattle.bl_cmd.specs.Layout.{first_of}
-use Rattle.bl_cmd.specs.Programs.{IsProgram}
-use Rattle.bl_cmd.specs.Rules.{IsWellFormed, Rule2}
-use Rattle.bl_cmd.specs.Tables.{AreValues}
-use Rattle.bl_cmd.specs.declared.definitions.ProgramParts.{ProgramParts as Program}
+use Rattle.bl_program.specs.Layout.{first_of}
+use Rattle.bl_program.specs.Programs.{IsProgram}
+use Rattle.bl_program.specs.Rules.{IsWellFormed, Rule2}
+use Rattle.bl_program.specs.Layout.{AreValues}
+use Rattle.bl_program.specs.declared.definitions.ProgramParts.{ProgramParts as Program}
 use Rattle.bl_iface.specs.JoinedProgram.{CanJoin, client_numbers, client_shift, goes, library_numbers, library_shift, moved_position, moved_var, read_from}
 use Rattle.bl_iface.specs.MovableNumbers.{IsSmall}
 use Rattle.bl_iface.specs.PartNumbers.{AreNumbers, LeadsTo, goal_in, numbers_from}

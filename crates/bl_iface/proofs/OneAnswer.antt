@@ -6,8 +6,8 @@ use Rattle.std.proofs.lemmas.Bool.{cases_order}
 use Rattle.std.proofs.lemmas.Option.{same_Some}
 use Rattle.bl_base.proofs.Lists.{all_get}
 use Rattle.bl_base.specs.declared.quantity.Quantity.{Quantity}
-use Rattle.bl_cmd.specs.declared.definitions.ProgramParts.{ProgramParts as Program}
-use Rattle.bl_cmd.proofs.AppendLemmas.{get_take}
+use Rattle.bl_program.specs.declared.definitions.ProgramParts.{ProgramParts as Program}
+use Rattle.bl_program.proofs.AppendLemmas.{get_take}
 use Rattle.bl_iface.specs.Answers.{IsFirstWithout, JoinAnswers, StandsAgainst}
 use Rattle.bl_iface.specs.JoinedProgram.{HasSameTypes, IsNew, IsWithin, kept, sums}
 use Rattle.bl_iface.specs.declared.iface.Iface.{Iface}

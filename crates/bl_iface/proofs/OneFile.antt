@@ -8,8 +8,8 @@ use Rattle.std.proofs.lemmas.List.Folds.{Any-from_list_any}
 use Rattle.std.proofs.lemmas.Option.{slice_get_read, slice_get_within}
 use Rattle.std.proofs.lemmas.Slice.Eq.{bytes_eq-Decides}
 use Rattle.bl_base.proofs.Lists.{get_mapped, mapped_get}
-use Rattle.bl_cmd.proofs.Totals.{rises_get}
-use Rattle.bl_cmd.proofs.AppendLemmas.{get_take}
+use Rattle.bl_program.proofs.Totals.{rises_get}
+use Rattle.bl_program.proofs.AppendLemmas.{get_take}
 use Rattle.bl_iface.specs.Files.{IsFirstBadLine, IsIface, Say, function_in}
 use Rattle.bl_iface.specs.JoinedProgram.{is_named}
 use Rattle.bl_iface.specs.declared.error.IfaceError.{IfaceError}

@@ -4,14 +4,14 @@ use Rattle.std.specs.Prelude.{option_map}
 use Rattle.std.proofs.lemmas.Bool.{cases_lt}
 use Rattle.std.proofs.lemmas.List.{length-append, length-drop, length-map, length-take-le}
 use Rattle.std.proofs.lemmas.Option.{none-some, same_Some, slice_get-map}
-use Rattle.bl_cmd.specs.Layout.{first_of, entry_of, command_at}
-use Rattle.bl_cmd.specs.Programs.{IsProgram}
+use Rattle.bl_program.specs.Layout.{first_of, entry_of, command_at}
+use Rattle.bl_program.specs.Programs.{IsProgram}
 use Rattle.bl_base.specs.declared.trap.Trap.{Trap as TrapKind}
-use Rattle.bl_cmd.specs.declared.command.Command.{Command}
-use Rattle.bl_cmd.specs.declared.command.Command.TheVariants.{Trap}
-use Rattle.bl_cmd.specs.declared.definitions.FunctionDef.{FunctionDef}
-use Rattle.bl_cmd.specs.declared.definitions.ProgramParts.{ProgramParts as Program}
-use Rattle.bl_cmd.proofs.AppendLemmas.{get_left, get_right, get_take, get_drop, sum_left, sum_right}
+use Rattle.bl_program.specs.declared.command.Command.{Command}
+use Rattle.bl_program.specs.declared.command.Command.TheVariants.{Trap}
+use Rattle.bl_program.specs.declared.definitions.FunctionDef.{FunctionDef}
+use Rattle.bl_program.specs.declared.definitions.ProgramParts.{ProgramParts as Program}
+use Rattle.bl_program.proofs.AppendLemmas.{get_left, get_right, get_take, get_drop, sum_left, sum_right}
 use Rattle.bl_iface.specs.JoinedProgram.{client_numbers, client_shift, joined, library_numbers, library_shift, renamed}
 use Rattle.bl_iface.specs.declared.iface.Iface.{Iface}
 use Rattle.bl_iface.proofs.ShiftedPart.{IsFrom, Shifted, Split}

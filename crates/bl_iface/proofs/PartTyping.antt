@@ -4,18 +4,19 @@ use Rattle.std.specs.Prelude.{IsSomeAnd, if◌then◌else◌, not}
 use Rattle.std.proofs.lemmas.Bool.{false≢true}
 use Rattle.std.proofs.lemmas.Option.{none-some, same_Some, slice_get_within}
 use Rattle.bl_base.specs.declared.trap.Trap.{Trap as TrapKind}
+use Rattle.bl_base.proofs.OptionLemmas.{some_with}
 use Rattle.bl_ops.specs.OperatorTable.{is_division}
-use Rattle.bl_cmd.specs.Layout.{first_of, param, params_of, result, results_of, running, command_at, Holds}
-use Rattle.bl_cmd.specs.Programs.{IsProgram}
-use Rattle.bl_cmd.specs.Rules.{IsOwn, IsReadable, IsWellFormed, Rule4, Rule6, operands_of}
-use Rattle.bl_cmd.specs.Sites.{Among, Loads, moved_by, sunk_by, written_by}
-use Rattle.bl_cmd.specs.declared.command.Command.{Command}
-use Rattle.bl_cmd.specs.declared.command.Command.TheVariants.{Set, Load, Arg, Out, Trap}
-use Rattle.bl_cmd.specs.declared.command.Operand.{Operand}
-use Rattle.bl_cmd.specs.declared.definitions.ProgramParts.{ProgramParts as Program}
-use Rattle.bl_cmd.proofs.SiteOperands.{moved_in, sunk_in}
-use Rattle.bl_cmd.proofs.Layouts.{held_by, result_own, running_is}
-use Rattle.bl_cmd.proofs.VariableBounds.{own_small, writable_small}
+use Rattle.bl_program.specs.Layout.{first_of, param, params_of, result, results_of, running, command_at, Holds}
+use Rattle.bl_program.specs.Programs.{IsProgram}
+use Rattle.bl_program.specs.Rules.{IsOwn, IsReadable, IsWellFormed, Rule4, Rule6, operands_of}
+use Rattle.bl_program.specs.Sites.{Among, Loads, moved_by, sunk_by, written_by}
+use Rattle.bl_program.specs.declared.command.Command.{Command}
+use Rattle.bl_program.specs.declared.command.Command.TheVariants.{Set, Load, Arg, Out, Trap}
+use Rattle.bl_program.specs.declared.command.Operand.{Operand}
+use Rattle.bl_program.specs.declared.definitions.ProgramParts.{ProgramParts as Program}
+use Rattle.bl_program.proofs.SiteOperands.{moved_in, sunk_in}
+use Rattle.bl_program.proofs.Layouts.{held_by, result_own, running_is}
+use Rattle.bl_program.proofs.VariableBounds.{own_small, writable_small}
 use Rattle.bl_transient.specs.Transient.{Flows}
 use Rattle.bl_iface.specs.JoinedProgram.{Renaming, moved_var, operand_by, renamed}
 use Rattle.bl_iface.specs.declared.shift.Shift.{Shift}
@@ -43,10 +44,6 @@ pub record AtSite (program : Program) (typing set : ℕ → Bool) (s : ℕ) (c :
 pub trap_keeps : (program : Program) (typing set : ℕ → Bool) (s : ℕ) (kind : TrapKind) → AtSite program typing set s (Trap kind)
 trap_keeps program typing set s kind = record { loads = λ x h is bare. absurd h; moves = λ x y h is bare t. absurd h; sinks = λ x h. absurd h }
 
-some_and : {X : Type 0} (o : Option X) (P : X → Type 0) → IsSomeAnd o P → (x : X) × (o ≡ Some x) × P x
-some_and None P h = absurd h
-some_and (Some x) P h = (x, refl, h)
-
 -- what is so of what is there
 pub known : {X : Type 0} (o : Option X) (x : X) (P : X → Type 0) → IsSomeAnd o P → o ≡ Some x → P x
 known o x P h e = subst (λ k. IsSomeAnd k P) e h
@@ -56,15 +53,15 @@ pub flows_from : (program : Program) (typing set : ℕ → Bool) → ((s : ℕ) 
 flows_from program typing set each = record {
   assigns = record {
     loads = λ s x load writes bare.
-        let c = some_and (command_at program s) Loads load in
+        let c = some_with (command_at program s) Loads load in
         (each s c.0 c.1).loads x c.2 (known (command_at program s) c.0 (λ k. written_by program s k ≡ Some x) writes c.1) bare;
     moves = λ s x y reads writes bare t.
-        let c = some_and (command_at program s) (λ k. Among (moved_by k) x) reads in
+        let c = some_with (command_at program s) (λ k. Among (moved_by k) x) reads in
         (each s c.0 c.1).moves x y c.2 (known (command_at program s) c.0 (λ k. written_by program s k ≡ Some y) writes c.1) bare t;
     given = λ x h. cc;
   };
   sinks = λ s x reads.
-      let c = some_and (command_at program s) (λ k. Among (sunk_by k) x) reads in
+      let c = some_with (command_at program s) (λ k. Among (sunk_by k) x) reads in
       (each s c.0 c.1).sinks x c.2;
   stable = λ x h. cc;
 }

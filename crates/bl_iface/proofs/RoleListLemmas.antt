@@ -10,12 +10,12 @@ use Rattle.bl_base.specs.declared.names.Flow.{Flow}
 use Rattle.bl_base.specs.declared.names.Flow.TheVariants.{Stable, Transient}
 use Rattle.bl_base.specs.declared.names.Role.{Role}
 use Rattle.bl_base.specs.declared.names.Role.TheVariants.{Client, Library}
-use Rattle.bl_cmd.specs.Layout.{first_of, param, params_of, result, results_of}
-use Rattle.bl_cmd.specs.Rules.{IsFunction, Rule2}
-use Rattle.bl_cmd.specs.Tables.{AreValues}
-use Rattle.bl_cmd.specs.declared.definitions.FunctionDef.{FunctionDef}
-use Rattle.bl_cmd.specs.declared.definitions.ProgramParts.{ProgramParts as Program}
-use Rattle.bl_cmd.proofs.Layouts.{first_below, next_first, number_is}
+use Rattle.bl_program.specs.Layout.{first_of, param, params_of, result, results_of}
+use Rattle.bl_program.specs.Rules.{IsFunction, Rule2}
+use Rattle.bl_program.specs.Layout.{AreValues}
+use Rattle.bl_program.specs.declared.definitions.FunctionDef.{FunctionDef}
+use Rattle.bl_program.specs.declared.definitions.ProgramParts.{ProgramParts as Program}
+use Rattle.bl_program.proofs.Layouts.{first_below, next_first, number_is}
 use Rattle.bl_transient.specs.declared.asked.AskedOf.{AskedOf}
 use Rattle.bl_iface.specs.RoleLists.{Adds, AreAsked, Lists, asked_from, called_from, kept_if}
 use Rattle.bl_iface.specs.JoinedProgram.{exported}

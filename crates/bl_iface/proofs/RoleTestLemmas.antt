@@ -10,14 +10,14 @@ use Rattle.bl_base.specs.declared.names.Flow.{Flow}
 use Rattle.bl_base.specs.declared.names.Flow.TheVariants.{Stable, Transient}
 use Rattle.bl_base.specs.declared.names.Role.{Role}
 use Rattle.bl_base.specs.declared.names.Role.TheVariants.{Client, Library}
-use Rattle.bl_cmd.specs.Layout.{first_of, param, params_of, result, results_of}
-use Rattle.bl_cmd.specs.Rules.{IsOwn, Rule2, Rule3}
-use Rattle.bl_cmd.proofs.Layouts.{own_apart, result_own}
+use Rattle.bl_program.specs.Layout.{first_of, param, params_of, result, results_of}
+use Rattle.bl_program.specs.Rules.{IsOwn, Rule2, Rule3}
+use Rattle.bl_program.proofs.Layouts.{own_apart, result_own}
 use Rattle.bl_iface.proofs.JoinedReads.{exported_exists}
 use Rattle.bl_iface.proofs.PartTyping.{known}
 use Rattle.bl_iface.proofs.JoinedTyping.{param_own}
-use Rattle.bl_cmd.specs.declared.definitions.ProgramParts.{ProgramParts as Program}
-use Rattle.bl_cmd.proofs.VariableBounds.{own_small}
+use Rattle.bl_program.specs.declared.definitions.ProgramParts.{ProgramParts as Program}
+use Rattle.bl_program.proofs.VariableBounds.{own_small}
 use Rattle.bl_transient.specs.Transient.{Flows, Asked, FlowsUnder, TransUnder}
 use Rattle.bl_iface.specs.JoinedProgram.{exported}
 use Rattle.bl_iface.specs.InterfaceFunctions.{Matches}

@@ -4,15 +4,15 @@ use Rattle.std.specs.Prelude.{if◌then◌else◌, nat_lt, option_map, unwrap_or
 use Rattle.std.proofs.lemmas.Bool.{cases_lt, ltb-true, ltb-false}
 use Rattle.std.proofs.lemmas.Option.{slice_get_within}
 use Rattle.bl_base.proofs.Lists.{all_get, within_get}
-use Rattle.bl_cmd.specs.Layout.{statics, size_of, first_of, params_of, results_of, result, entry_of, command_at, Holds}
-use Rattle.bl_cmd.specs.Programs.{IsProgram}
-use Rattle.bl_cmd.specs.Rules.{GoesTo, IsFunction, IsLocal, IsOwn, IsReadable, IsResult, IsWellFormed, IsWritable}
+use Rattle.bl_program.specs.Layout.{statics, size_of, first_of, params_of, results_of, result, entry_of, command_at, Holds}
+use Rattle.bl_program.specs.Programs.{IsProgram}
+use Rattle.bl_program.specs.Rules.{GoesTo, IsFunction, IsLocal, IsOwn, IsReadable, IsResult, IsWellFormed, IsWritable}
 use Rattle.bl_base.specs.declared.trap.Trap.{Trap as TrapKind}
-use Rattle.bl_cmd.specs.declared.command.Command.{Command}
-use Rattle.bl_cmd.specs.declared.command.Command.TheVariants.{Trap}
-use Rattle.bl_cmd.specs.declared.definitions.FunctionDef.{FunctionDef}
-use Rattle.bl_cmd.specs.declared.definitions.ProgramParts.{ProgramParts as Program}
-use Rattle.bl_cmd.proofs.Layouts.{held_by, holds_within, next_entry, own_exists, result_own}
+use Rattle.bl_program.specs.declared.command.Command.{Command}
+use Rattle.bl_program.specs.declared.command.Command.TheVariants.{Trap}
+use Rattle.bl_program.specs.declared.definitions.FunctionDef.{FunctionDef}
+use Rattle.bl_program.specs.declared.definitions.ProgramParts.{ProgramParts as Program}
+use Rattle.bl_program.proofs.Layouts.{held_by, holds_within, next_entry, own_exists, result_own}
 use Rattle.bl_iface.specs.JoinedProgram.{Renaming, moved_position, moved_var, renamed}
 use Rattle.bl_iface.specs.declared.shift.Shift.{Shift}
 use Rattle.bl_iface.proofs.EmbedLemmas.{Embeds, goes_renamed}

@@ -4,12 +4,12 @@ use Rattle.std.specs.Prelude.{if◌then◌else◌, nat_lt}
 use Rattle.std.proofs.lemmas.Bool.{ltb-true, ltb-false}
 use Rattle.std.proofs.lemmas.Option.{slice_get-get_or}
 use Rattle.bl_base.proofs.Lists.{all_get}
-use Rattle.bl_cmd.specs.Layout.{first_of, params_of, result, results_of}
-use Rattle.bl_cmd.specs.Rules.{IsFunction, IsOwn, IsResult, Rule2}
-use Rattle.bl_cmd.specs.Tables.{AreValues}
-use Rattle.bl_cmd.specs.declared.definitions.FunctionDef.{FunctionDef}
-use Rattle.bl_cmd.specs.declared.definitions.ProgramParts.{ProgramParts as Program}
-use Rattle.bl_cmd.proofs.Layouts.{first_above, first_below, next_first, number_is, own_exists, result_own}
+use Rattle.bl_program.specs.Layout.{first_of, params_of, result, results_of}
+use Rattle.bl_program.specs.Rules.{IsFunction, IsOwn, IsResult, Rule2}
+use Rattle.bl_program.specs.Layout.{AreValues}
+use Rattle.bl_program.specs.declared.definitions.FunctionDef.{FunctionDef}
+use Rattle.bl_program.specs.declared.definitions.ProgramParts.{ProgramParts as Program}
+use Rattle.bl_program.proofs.Layouts.{first_above, first_below, next_first, number_is, own_exists, result_own}
 use Rattle.bl_iface.specs.JoinedProgram.{moved_var, owner, read_from, result_from}
 use Rattle.bl_iface.specs.PartNumbers.{AreNumbers}
 use Rattle.bl_iface.specs.declared.numbers.Numbers.{Numbers}

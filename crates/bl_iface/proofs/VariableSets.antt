@@ -9,7 +9,7 @@ use Rattle.std.proofs.lemmas.Bool.{cases_eq, cases_lt, eq-eqb, false≢true, ne_
 use Rattle.std.proofs.lemmas.List.{get_or_default}
 use Rattle.std.proofs.lemmas.List.Folds.{list_any_more}
 use Rattle.bl_base.specs.declared.number.Pos.{Pos}
-use Rattle.bl_cmd.specs.declared.definitions.ProgramParts.{ProgramParts as Program}
+use Rattle.bl_program.specs.declared.definitions.ProgramParts.{ProgramParts as Program}
 use Rattle.bl_graph.specs.Graphs.{IsGraph, Precedes, use_of}
 use Rattle.bl_graph.specs.declared.facts.Graph.{Graph}
 use Rattle.bl_graph.specs.declared.facts.Use.{Use}

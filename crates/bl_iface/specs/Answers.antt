@@ -1,7 +1,7 @@
 -- What `join` answers of two programs and an interface: the joined program, or the first thing that stands against it.
 use Rattle.std.specs.Prelude.{◌≡◌, ℕ, List, Some, slice_get, take, Ok, Err, Result}
 use Rattle.std.specs.List.{All}
-use Rattle.bl_cmd.specs.declared.definitions.ProgramParts.{ProgramParts as Program}
+use Rattle.bl_program.specs.declared.definitions.ProgramParts.{ProgramParts as Program}
 use Rattle.bl_iface.specs.JoinedProgram.{CanJoin, HasSameTypes, IsNew, IsWithin, joined, kept, sums}
 use Rattle.bl_iface.specs.declared.iface.Iface.{Iface}
 use Rattle.bl_iface.specs.declared.limits.Sum.{Sum}

@@ -1,8 +1,8 @@
 -- The functions of an interface in a program, by their numbers.
 use Rattle.std.specs.Prelude.{◌≡◌, ◌<◌, ℕ, IsSomeAnd, List, Some, length, slice_get, slice_index}
 use Rattle.std.specs.List.{All}
-use Rattle.bl_cmd.specs.Layout.{params_of, results_of}
-use Rattle.bl_cmd.specs.declared.definitions.ProgramParts.{ProgramParts as Program}
+use Rattle.bl_program.specs.Layout.{params_of, results_of}
+use Rattle.bl_program.specs.declared.definitions.ProgramParts.{ProgramParts as Program}
 use Rattle.bl_iface.specs.Answers.{IsFirstWithout}
 use Rattle.bl_iface.specs.JoinedProgram.{exported}
 use Rattle.bl_iface.specs.declared.error.TargetsError.{TargetsError}

@@ -1,11 +1,11 @@
 -- Numbers that can be moved.
 use Rattle.std.specs.Prelude.{◌<◌, ◌+◌, ◌^◌, ℕ}
-use Rattle.bl_cmd.specs.declared.command.Command.{Command}
-use Rattle.bl_cmd.specs.declared.command.Command.TheVariants.{Set, Load, Store, Test, Jump, Arg, Call, Out, Ret, Trap}
-use Rattle.bl_cmd.specs.declared.command.Operand.{Operand}
-use Rattle.bl_cmd.specs.declared.command.Operand.TheVariants.{Var, Const}
-use Rattle.bl_cmd.specs.declared.definitions.Demand.{Demand}
-use Rattle.bl_cmd.specs.declared.definitions.Demand.TheVariants.{Result, Global}
+use Rattle.bl_program.specs.declared.command.Command.{Command}
+use Rattle.bl_program.specs.declared.command.Command.TheVariants.{Set, Load, Store, Test, Jump, Arg, Call, Out, Ret, Trap}
+use Rattle.bl_program.specs.declared.command.Operand.{Operand}
+use Rattle.bl_program.specs.declared.command.Operand.TheVariants.{Var, Const}
+use Rattle.bl_program.specs.declared.definitions.Demand.{Demand}
+use Rattle.bl_program.specs.declared.definitions.Demand.TheVariants.{Result, Global}
 use Rattle.bl_iface.specs.declared.shift.Shift.{Shift}
 
 -- a variable is within 32 bits wherever it is moved to

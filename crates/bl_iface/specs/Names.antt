@@ -5,7 +5,7 @@ use Rattle.std.specs.BTreeMap.{BTreeMap, get_by}
 use Rattle.std.specs.BTreeSet.{BTreeSet, contains_by}
 use Rattle.std.specs.Cmp.Lexicographic.{slice_cmp}
 use Rattle.std.specs.Ordering.{nat_cmp}
-use Rattle.bl_cmd.specs.declared.definitions.ExportDef.{ExportDef}
+use Rattle.bl_program.specs.declared.definitions.ExportDef.{ExportDef}
 use Rattle.bl_iface.specs.JoinedProgram.{exported, is_named}
 use Rattle.bl_iface.specs.declared.iface.FnIface.{FnIface}
 

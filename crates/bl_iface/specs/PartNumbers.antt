@@ -1,9 +1,9 @@
 -- A part's numbers in the joined program, as the code has them: by tables, and for either part in the same way.
 use Rattle.std.specs.Prelude.{◌≡◌, ◌<◌, ◌+◌, ◌^◌, ℕ, List, length, Option, Some, None, option_map, unwrap_or, slice_get}
-use Rattle.bl_cmd.specs.Layout.{first_of}
-use Rattle.bl_cmd.specs.Rules.{Rule2}
-use Rattle.bl_cmd.specs.Tables.{AreValues}
-use Rattle.bl_cmd.specs.declared.definitions.ProgramParts.{ProgramParts as Program}
+use Rattle.bl_program.specs.Layout.{first_of}
+use Rattle.bl_program.specs.Rules.{Rule2}
+use Rattle.bl_program.specs.Layout.{AreValues}
+use Rattle.bl_program.specs.declared.definitions.ProgramParts.{ProgramParts as Program}
 use Rattle.bl_iface.specs.JoinedProgram.{Renaming, goes, moved_position, moved_var, read_from}
 use Rattle.bl_iface.specs.MovableNumbers.{IsSmall}
 use Rattle.bl_iface.specs.declared.iface.Iface.{Iface}

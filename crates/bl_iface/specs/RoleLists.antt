@@ -5,7 +5,7 @@ use Rattle.bl_base.specs.declared.names.Flow.{Flow}
 use Rattle.bl_base.specs.declared.names.Flow.TheVariants.{Stable, Transient}
 use Rattle.bl_base.specs.declared.names.Role.{Role}
 use Rattle.bl_base.specs.declared.names.Role.TheVariants.{Client, Library}
-use Rattle.bl_cmd.specs.declared.definitions.ProgramParts.{ProgramParts as Program}
+use Rattle.bl_program.specs.declared.definitions.ProgramParts.{ProgramParts as Program}
 use Rattle.bl_graph.specs.Graphs.{use_of}
 use Rattle.bl_graph.specs.declared.facts.Use.{Use}
 use Rattle.bl_iface.specs.RoleTests.{asked, is_flow}

@@ -8,7 +8,7 @@ use crate::iface::FnIface;
 use crate::names::names_of;
 use crate::shift::{Shift, moved_position};
 use bl_base::{List, NoMemory, Text};
-use bl_cmd::{Demand, ExportDef, FunctionDef, MemoryDef, SiteWeight};
+use bl_program::{Demand, ExportDef, FunctionDef, MemoryDef, SiteWeight};
 use std::alloc::Global;
 
 /// Appends copies of the elements.

@@ -1,6 +1,6 @@
 //! Two programs joined.
 ghost use Rattle.std.specs.Prelude.{◌≡◌, ◌++◌, ◌+◌, ◌<◌, ◌≤◌, ◌^◌, IfOk, IfErr, OnOk, drop, length, map};
-ghost use Rattle.bl_cmd.specs.{Layout.first_of, Layout.statics, Programs.IsProgram, Rules.IsWellFormed, Tables.AreValues};
+ghost use Rattle.bl_program.specs.{Layout.first_of, Layout.statics, Programs.IsProgram, Rules.IsWellFormed, Layout.AreValues};
 ghost use Rattle.bl_iface.specs.{Answers.JoinAnswers, Answers.StandsAgainst, InterfaceFunctions.AreTargets, InterfaceFunctions.Matches};
 ghost use Rattle.bl_iface.specs.JoinedProgram.{CanJoin, client_numbers, client_shift, demands_of, joined, kept as exports_kept, library_numbers, library_shift, moved_export, moved_weight, renamed};
 ghost use Rattle.bl_iface.specs.PartNumbers.{LeadsTo};
@@ -18,7 +18,7 @@ use crate::obstacles::{first_taken, first_unlike};
 use crate::shift::Shift;
 use crate::tables::goals_of;
 use bl_base::{List, NoMemory};
-use bl_cmd::{
+use bl_program::{
     Command, Demand, ExportDef, FIRST_ENTRY, FunctionDef, MemoryDef, ProgramParts, SiteWeight,
     WellFormed, firsts_of,
 };

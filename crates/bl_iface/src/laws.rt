@@ -1,7 +1,7 @@
 //! Laws of interfaces and of joined programs. Each function is its contract alone.
 ghost use Rattle.std.specs.Prelude.{◌≡◌, ◌↔◌, ℕ, Bool as Truth, Err, IsTrue, List as Listed, Result as Answer};
 ghost use Rattle.bl_base.specs.{declared.names.Role.Role, declared.names.Role.TheVariants.Client, declared.names.Role.TheVariants.Library};
-ghost use Rattle.bl_cmd.specs.{Programs.IsProgram, Rules.IsWellFormed, Sites.is_protected, declared.definitions.ProgramParts.ProgramParts};
+ghost use Rattle.bl_program.specs.{Programs.IsProgram, Rules.IsWellFormed, Sites.is_protected, declared.definitions.ProgramParts.ProgramParts};
 ghost use Rattle.bl_cut.specs.Least.{LeastUnder};
 ghost use Rattle.bl_graph.specs.Ranges.{AreInRange};
 ghost use Rattle.bl_transient.specs.Transient.{FlowsUnder, Passes, TransUnder};

@@ -2,11 +2,11 @@
 ghost use Rattle.std.specs.Prelude.{◌≡◌, ◌+◌, ◌<◌, ◌^◌, MatchOption, length, true};
 ghost use Rattle.std.specs.List.{All};
 ghost use Rattle.bl_base.specs.Quantity.{limit_of};
-ghost use Rattle.bl_cmd.specs.{Layout.first_of, Layout.sum_before, Sites.weight_of};
+ghost use Rattle.bl_program.specs.{Layout.first_of, Layout.sum_before, Sites.weight_of};
 ghost use Rattle.bl_iface.specs.{Answers.IsFirstOver, JoinedProgram.IsWithin, JoinedProgram.sums};
 
 use bl_base::{Pos, Quantity};
-use bl_cmd::{FIRST_ENTRY, MemoryDef, ProgramParts, WellFormed, mark_at, site_weight};
+use bl_program::{FIRST_ENTRY, MemoryDef, ProgramParts, WellFormed, mark_at, site_weight};
 
 /// A number of two programs together, and the most that it may be.
 #[derive(Clone, Copy, Debug)]

@@ -1,7 +1,7 @@
 //! What a role asks of a program's variables, as lists.
 ghost use Rattle.std.specs.Prelude.{◌≡◌, ◌+◌, ◌++◌, ◌<◌, ◌^◌, ℕ, IfOk, OnOk, Some, length};
 ghost use Rattle.std.specs.List.{All, Contains};
-ghost use Rattle.bl_cmd.specs.{Layout.first_of, Rules.Rule2, Tables.AreValues};
+ghost use Rattle.bl_program.specs.{Layout.first_of, Rules.Rule2, Layout.AreValues};
 ghost use Rattle.bl_graph.specs.Ranges.{variables};
 ghost use Rattle.bl_iface.specs.RoleLists.{Adds, AreAsked, asked_from, called_from, kept_if};
 ghost use Rattle.bl_iface.specs.{InterfaceFunctions.AreTargets, InterfaceFunctions.Matches, RoleTests.is_flow};
@@ -9,7 +9,7 @@ ghost use Rattle.bl_iface.specs.{InterfaceFunctions.AreTargets, InterfaceFunctio
 use crate::iface::{FnIface, Iface};
 use crate::matching::matched;
 use bl_base::{Flow, List, NoMemory, Role};
-use bl_cmd::{ProgramParts, WellFormed, firsts_of};
+use bl_program::{ProgramParts, WellFormed, firsts_of};
 use bl_transient::AskedOf;
 use std::alloc::Global;
 

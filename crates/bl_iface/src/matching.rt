@@ -7,7 +7,7 @@ use crate::error::TargetsError;
 use crate::iface::{FnIface, Iface};
 use crate::names::numbers_of;
 use bl_base::{List, NoMemory};
-use bl_cmd::{ExportDef, ProgramParts, WellFormed};
+use bl_program::{ExportDef, ProgramParts, WellFormed};
 use std::alloc::Global;
 
 /// The functions of an interface in a program, by their numbers in the interface's order. Unmatched exactly where one isn't an export of the

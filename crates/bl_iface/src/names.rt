@@ -4,7 +4,7 @@ ghost use Rattle.bl_iface.specs.Names.{AreNames, IsDirectory};
 
 use crate::iface::FnIface;
 use bl_base::NoMemory;
-use bl_cmd::ExportDef;
+use bl_program::ExportDef;
 use std::alloc::Global;
 use std::collections::{BTreeMap, BTreeSet};
 

@@ -1,16 +1,16 @@
 //! A part's commands by the numbers of the joined program.
 ghost use Rattle.std.specs.Prelude.{◌≡◌, ◌++◌, ◌+◌, ◌-◌, ◌<◌, ◌≤◌, ◌^◌, ◌⊎◌, MatchOption, OnOk, length, map, slice_index};
 ghost use Rattle.std.specs.List.{All};
-ghost use Rattle.bl_cmd.specs.{Layout.first_of, Layout.result as result_at, Rules.IsOwn};
-ghost use Rattle.bl_cmd.specs.declared.command.Command.TheVariants.{Arg, Call, Jump, Load, Out, Set, Store, Test};
+ghost use Rattle.bl_program.specs.{Layout.first_of, Layout.result as result_at, Rules.IsOwn};
+ghost use Rattle.bl_program.specs.declared.command.Command.TheVariants.{Arg, Call, Jump, Load, Out, Set, Store, Test};
 ghost use Rattle.bl_iface.specs.JoinedProgram.{moved_var, operand_by, renamed};
 ghost use Rattle.bl_iface.specs.PartNumbers.{AreNumbers, goal_in, numbers_by};
 ghost use Rattle.bl_iface.specs.MovableNumbers.{IsMovable, IsSmall, IsSmallOperand};
 
 use crate::shift::{Shift, moved_position, moved_var};
 use bl_base::{List, NoMemory, Pos, Var};
-use bl_cmd::{Command, FunctionDef, Mark, Operand, ProgramParts, owner_among};
 use bl_ops::{AccessKind, Op};
+use bl_program::{Command, FunctionDef, Mark, Operand, ProgramParts, owner_among};
 
 /// How the numbers of a part's commands become those of the joined program.
 #[derive(Clone, Copy)]

@@ -7,7 +7,7 @@ ghost use Rattle.bl_iface.specs.JoinedProgram.{HasSameTypes, IsNew, kinds};
 use crate::iface::Iface;
 use crate::names::numbers_of;
 use bl_base::{NoMemory, ValueType};
-use bl_cmd::{ExportDef, FunctionDef, ParamDef, ProgramParts};
+use bl_program::{ExportDef, FunctionDef, ParamDef, ProgramParts};
 use std::alloc::Global;
 
 /// The first function of the interface, by its index, that has other types in the client than in the library.

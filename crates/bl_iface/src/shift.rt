@@ -3,7 +3,7 @@ ghost use Rattle.std.specs.Prelude.{◌≡◌};
 ghost use Rattle.bl_iface.specs.{JoinedProgram.moved_position, JoinedProgram.moved_var, MovableNumbers.IsNear, MovableNumbers.IsSmall};
 
 use bl_base::Pos;
-use bl_cmd::{FIRST_ENTRY, ProgramParts};
+use bl_program::{FIRST_ENTRY, ProgramParts};
 
 /// What is added to the numbers of a part: to those of its globals, sizes, functions' variables, memories, functions and commands.
 #[derive(Clone, Copy, Debug)]

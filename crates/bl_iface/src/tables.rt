@@ -4,7 +4,7 @@ ghost use Rattle.bl_iface.specs.{InterfaceFunctions.AreTargets, PartNumbers.Lead
 
 use crate::iface::Iface;
 use bl_base::{List, NoMemory};
-use bl_cmd::WellFormed;
+use bl_program::WellFormed;
 use std::alloc::Global;
 
 /// For each function of the client the library's that it goes to, by the functions of the interface in both: the first name that stands for it

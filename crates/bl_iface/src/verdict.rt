@@ -1,13 +1,13 @@
 //! Whether a program's own marks pass on one side of an interface.
 ghost use Rattle.std.specs.Prelude.{IfOk};
-ghost use Rattle.bl_cmd.specs.Sites.{is_protected};
+ghost use Rattle.bl_program.specs.Sites.{is_protected};
 ghost use Rattle.bl_iface.specs.{InterfaceFunctions.Matches, RoleTests.JudgesAs};
 
 use crate::iface::Iface;
 use crate::lists::asked_of;
 use bl_base::{NoMemory, Pos, Role};
-use bl_cmd::WellFormed;
 use bl_graph::graph;
+use bl_program::WellFormed;
 use bl_transient::{first_bad_of, own_protects};
 use std::alloc::Global;
 

@@ -3,17 +3,17 @@ use Rattle.std.proofs.Common.{◌≡◌, ℕ, zero, suc, ◌+◌, ◌<◌, ◌�
 use Rattle.bl_base.specs.Quantity.{limit_of}
 use Rattle.bl_base.specs.declared.quantity.Quantity.TheVariants.{Commands}
 use Rattle.bl_base.specs.declared.trap.Trap.TheVariants.{Unreachable, DivideByZero, Overflow, OutOfBounds, UndefinedElement, UninitializedElement, TypeMismatch}
-use Rattle.bl_cmd.specs.Layout.{entry_of}
-use Rattle.bl_cmd.specs.Programs.{IsCommand, IsProgram, IsTrapAt}
-use Rattle.bl_cmd.specs.Rules.{Rule1, Breaks, IsFirstBroken, IsWellFormed}
-use Rattle.bl_cmd.specs.declared.command.Command.{Command}
-use Rattle.bl_cmd.specs.declared.definitions.Demand.{Demand}
-use Rattle.bl_cmd.specs.declared.definitions.ExportDef.{ExportDef}
-use Rattle.bl_cmd.specs.declared.definitions.FunctionDef.{FunctionDef}
-use Rattle.bl_cmd.specs.declared.definitions.GlobalDef.{GlobalDef}
-use Rattle.bl_cmd.specs.declared.definitions.MemoryDef.{MemoryDef}
-use Rattle.bl_cmd.specs.declared.definitions.SiteWeight.{SiteWeight}
-use Rattle.bl_cmd.specs.declared.definitions.ProgramParts.{ProgramParts as Program}
+use Rattle.bl_program.specs.Layout.{entry_of}
+use Rattle.bl_program.specs.Programs.{IsCommand, IsProgram, IsTrapAt}
+use Rattle.bl_program.specs.Rules.{Rule1, Breaks, IsFirstBroken, IsWellFormed}
+use Rattle.bl_program.specs.declared.command.Command.{Command}
+use Rattle.bl_program.specs.declared.definitions.Demand.{Demand}
+use Rattle.bl_program.specs.declared.definitions.ExportDef.{ExportDef}
+use Rattle.bl_program.specs.declared.definitions.FunctionDef.{FunctionDef}
+use Rattle.bl_program.specs.declared.definitions.GlobalDef.{GlobalDef}
+use Rattle.bl_program.specs.declared.definitions.MemoryDef.{MemoryDef}
+use Rattle.bl_program.specs.declared.definitions.SiteWeight.{SiteWeight}
+use Rattle.bl_program.specs.declared.definitions.ProgramParts.{ProgramParts as Program}
 use Rattle.bl_image.specs.declared.error.ImageError.{ImageError}
 use Rattle.bl_image.specs.declared.error.ImageError.TheVariants.{NotAnImage, IllFormed, Memory}
 use Rattle.bl_format.specs.Grammar.{each}

@@ -1,8 +1,8 @@
 -- The operands of a Set: as many as its operator takes.
 use Rattle.std.proofs.Common.{ℕ, List, ◌++◌, append-nil, sym, ap, ap₂, ◌∙◌, refl, subst, arith}
-use Rattle.bl_cmd.specs.Programs.{arity, IsCommand}
-use Rattle.bl_cmd.specs.declared.command.Operand.{Operand}
-use Rattle.bl_cmd.specs.declared.command.Operand.TheVariants.{Const}
+use Rattle.bl_program.specs.Programs.{arity, IsCommand}
+use Rattle.bl_program.specs.declared.command.Operand.{Operand}
+use Rattle.bl_program.specs.declared.command.Operand.TheVariants.{Const}
 use Rattle.bl_leb.specs.Grammar.{Spellings, ◌⨾◌, nothing, given}
 use Rattle.bl_format.specs.Grammar.{u32}
 use Rattle.bl_format.specs.Image.{operand, operator, mark, command_code, fields}

@@ -1,11 +1,11 @@
 -- Images are prefix-free, and an image is one program's.
 use Rattle.std.proofs.Common.{◌≡◌, ℕ, ◌+◌, List, [], ◌∷◌, ◌++◌, length, drop, ap, ap₂, sym, ◌∙◌, refl, arith, length-drop, append-nil}
-use Rattle.bl_cmd.specs.Layout.{sum_before}
-use Rattle.bl_cmd.specs.declared.command.Command.{Command}
-use Rattle.bl_cmd.specs.declared.definitions.Demand.{Demand}
-use Rattle.bl_cmd.specs.declared.definitions.FunctionDef.{FunctionDef}
-use Rattle.bl_cmd.specs.declared.definitions.ProgramParts.{ProgramParts as Program}
-use Rattle.bl_cmd.specs.declared.definitions.SiteWeight.{SiteWeight}
+use Rattle.bl_program.specs.Layout.{sum_before}
+use Rattle.bl_program.specs.declared.command.Command.{Command}
+use Rattle.bl_program.specs.declared.definitions.Demand.{Demand}
+use Rattle.bl_program.specs.declared.definitions.FunctionDef.{FunctionDef}
+use Rattle.bl_program.specs.declared.definitions.ProgramParts.{ProgramParts as Program}
+use Rattle.bl_program.specs.declared.definitions.SiteWeight.{SiteWeight}
 use Rattle.bl_leb.specs.Grammar.{exactly, given}
 use Rattle.bl_format.specs.Image.{magic, header, version, additions, command, Image}
 use Rattle.bl_image.specs.ReaderAnswers.{traps}

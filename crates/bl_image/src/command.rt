@@ -6,8 +6,8 @@ ghost use Rattle.bl_image.specs.ReaderAnswers.{Finds, fields_behind, operands_of
 use crate::error::Malformed;
 use crate::read::{Find, read_byte, read_u32};
 use bl_base::{Pos, Trap, Var};
-use bl_cmd::{Command, Mark, Operand, arity};
 use bl_ops::{AccessKind, Op};
+use bl_program::{Command, Mark, Operand, arity};
 
 /// What stands for an operand that an operator doesn't take.
 const ZERO: Operand = Operand::Const(0);

@@ -5,7 +5,7 @@ use crate::error::{Malformed, ReadError};
 use crate::read::{Find, Read, read_byte, read_each, read_found, read_u32, read_u64};
 use crate::rising::Rows;
 use bl_base::{Label, List, Text, ValueType};
-use bl_cmd::{Demand, ExportDef, FunctionDef, GlobalDef, MemoryDef, ParamDef};
+use bl_program::{Demand, ExportDef, FunctionDef, GlobalDef, MemoryDef, ParamDef};
 use std::alloc::Global;
 
 impl Find for GlobalDef {

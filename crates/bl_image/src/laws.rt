@@ -1,6 +1,6 @@
 //! Laws of images. Each function is its contract alone.
 ghost use Rattle.std.specs.Prelude.{◌≡◌, ℕ, List, [], ◌++◌};
-ghost use Rattle.bl_cmd.specs.declared.definitions.ProgramParts.{ProgramParts};
+ghost use Rattle.bl_program.specs.declared.definitions.ProgramParts.{ProgramParts};
 ghost use Rattle.bl_format.specs.Image.{Image};
 
 /// Bytes are the image of at most one program.

@@ -7,8 +7,8 @@ ghost use Rattle.bl_image.specs.ReaderAnswers.{Finds, Reads};
 use crate::error::{Malformed, ReadError};
 use crate::read::{Read, read_u32, read_u64};
 use bl_base::{List, Pos};
-use bl_cmd::{MemRow, SiteWeight};
 use bl_format::Numbered;
+use bl_program::{MemRow, SiteWeight};
 use std::alloc::Global;
 
 /// What stands in an image behind a number that rises, with its reader.

@@ -1,6 +1,6 @@
 //! Readers of the small parts of several tables.
 ghost use Rattle.std.specs.Prelude.{◌≡◌, ◌≤◌, length, IfSome, [], ◌∷◌};
-ghost use Rattle.bl_cmd.specs.declared.command.Mark.{Mark};
+ghost use Rattle.bl_program.specs.declared.command.Mark.{Mark};
 ghost use Rattle.bl_leb.specs.Grammar.{byte};
 ghost use Rattle.bl_format.specs.Grammar.{u32};
 ghost use Rattle.bl_format.specs.Image.{value_type, label, operand, mark, operator, access, trap_kind};
@@ -9,8 +9,8 @@ ghost use Rattle.bl_image.specs.ReaderAnswers.{Finds, Reads};
 use crate::error::{Malformed, ReadError};
 use crate::read::{Find, Read, read_byte, read_found, read_u32, read_u64};
 use bl_base::{Label, Pos, Trap, ValueType, Var};
-use bl_cmd::{Mark, Operand};
 use bl_ops::{AccessKind, Op, by_image_code};
+use bl_program::{Mark, Operand};
 use std::alloc::Global;
 
 impl Find for Var {

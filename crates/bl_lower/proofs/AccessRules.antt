@@ -5,12 +5,12 @@ use Rattle.bl_ops.specs.declared.op.Op.TheVariants as op
 use Rattle.bl_wasm.specs.Linked.{IsLinked, IsFunction}
 use Rattle.bl_wasm.specs.declared.linked.Function.{Function}
 use Rattle.bl_wasm.specs.declared.linked.Tree.{Tree}
-use Rattle.bl_cmd.specs.Layout.{size_of as size_variable, entry_of, command_at, Holds}
-use Rattle.bl_cmd.specs.Programs.{IsProgram}
-use Rattle.bl_cmd.specs.Rules.{IsLocal, Rule7, Rule8, GoesTo, Reach, variable, assign, IsPassed, IsGuarded, IsTested, IsGrowth}
-use Rattle.bl_cmd.specs.declared.command.Command.{Command}
-use Rattle.bl_cmd.specs.declared.command.Operand.TheVariants.{Const}
-use Rattle.bl_cmd.proofs.Layouts.{no_entry}
+use Rattle.bl_program.specs.Layout.{size_of as size_variable, entry_of, command_at, Holds}
+use Rattle.bl_program.specs.Programs.{IsProgram}
+use Rattle.bl_program.specs.Rules.{IsLocal, Rule7, Rule8, GoesTo, Reach, variable, assign, IsPassed, IsGuarded, IsTested, IsGrowth}
+use Rattle.bl_program.specs.declared.command.Command.{Command}
+use Rattle.bl_program.specs.declared.command.Operand.TheVariants.{Const}
+use Rattle.bl_program.proofs.Layouts.{no_entry}
 use Rattle.bl_access.specs.Templates.{shift, mark_at, bounds, growth}
 use Rattle.bl_lower.specs.Trees.{low_tree}
 use Rattle.bl_lower.proofs.PiecePositions.{Found, bounds_of, found_other}

@@ -13,9 +13,9 @@ use Rattle.bl_reduce.specs.Configurations.{State, with_values}
 use Rattle.bl_reduce.specs.Control.{items_behind_end, items_of_else, enter_with, enter_block, enter_loop, enter_if, reach_end, reach_else}
 use Rattle.bl_base.proofs.Lists.{zip_reverse}
 use Rattle.bl_access.specs.Templates.{test_of, jump_to, shift}
-use Rattle.bl_cmd.specs.Steps.{Registers, Plain, depth}
-use Rattle.bl_cmd.specs.declared.command.Operand.{Operand}
-use Rattle.bl_cmd.specs.declared.command.Operand.TheVariants.{Var, Const}
+use Rattle.bl_program.specs.Steps.{Registers, Plain, depth}
+use Rattle.bl_program.specs.declared.command.Operand.{Operand}
+use Rattle.bl_program.specs.declared.command.Operand.TheVariants.{Var, Const}
 use Rattle.bl_lower.proofs.CodeLayout.{HasAt, Fresh, AllUnder, floor, target_point, live, IsLaidOut, EndsAt, Brings}
 use Rattle.bl_lower.proofs.Machine.{Program, plain_step}
 use Rattle.bl_lower.proofs.MatchStates.{Holds, AllHold, Layout, Here}

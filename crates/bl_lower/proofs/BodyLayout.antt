@@ -16,8 +16,8 @@ use Rattle.bl_wasm.specs.declared.types.WasmType.TheVariants.{I32, I64}
 use Rattle.bl_wasm.specs.declared.types.FuncType.{FuncType}
 use Rattle.bl_reduce.proofs.Places.{behind_item}
 use Rattle.bl_access.specs.Templates.{chain, variable, jump_to, shift, set as set_command}
-use Rattle.bl_cmd.specs.declared.command.Command.{Command}
-use Rattle.bl_cmd.specs.declared.command.Operand.{Operand}
+use Rattle.bl_program.specs.declared.command.Command.{Command}
+use Rattle.bl_program.specs.declared.command.Operand.{Operand}
 use Rattle.bl_lower.proofs.CodeLayout.{HasAt, Fresh, if_target, then_point, else_point, live, dead, second_of, operands_of, IsLaidOut, EndsAt, OutsAt, ToAt, TestsAt, SecondAt, SlotsFrom, SlotAt, behind_first, flat, code_of, tests, yes_of, slot_tests}
 use Rattle.bl_lower.proofs.Machine.{Program}
 use Rattle.bl_emit.specs.Constructs.{pad, reads, moves, outs, top, whole, again, Target, as_whole, taken, first_to, mark_of, Point, point, behind, inside, branched}

@@ -7,9 +7,9 @@ use Rattle.bl_wasm.specs.declared.instruction.Instr.{Instr}
 use Rattle.bl_wasm.specs.declared.instruction.Instr.TheVariants.{Br, BrIf, BrTable, Return, Call, CallIndirect, Drop, Select, LocalGet, LocalSet, GlobalGet, GlobalSet, Load, Store, MemorySize, MemoryGrow, I32Const, I64Const, Integer}
 use Rattle.bl_wasm.specs.declared.linked.Function.{Function}
 use Rattle.bl_wasm.specs.declared.linked.Tree.{Tree}
-use Rattle.bl_cmd.specs.declared.command.Command.{Command}
-use Rattle.bl_cmd.specs.declared.command.Command.TheVariants as command
-use Rattle.bl_cmd.specs.declared.command.Operand.{Operand}
+use Rattle.bl_program.specs.declared.command.Command.{Command}
+use Rattle.bl_program.specs.declared.command.Command.TheVariants as command
+use Rattle.bl_program.specs.declared.command.Operand.{Operand}
 use Rattle.bl_access.specs.Templates.{shift, variable, test_of, jump_to, chain}
 use Rattle.bl_emit.specs.Shapes.{Shape, bottom}
 use Rattle.bl_emit.specs.Constructs.{top, pad, moves, mark_of, Target, branched, Point, as_whole, behind}

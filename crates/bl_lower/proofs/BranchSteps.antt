@@ -11,9 +11,9 @@ use Rattle.bl_reduce.specs.Configurations.{State, Config, go, with_values}
 use Rattle.bl_reduce.specs.Control.{branch_to, branch, branch_if, branch_by}
 use Rattle.bl_reduce.specs.Returns.{return}
 use Rattle.bl_access.specs.Templates.{test_of}
-use Rattle.bl_cmd.specs.Steps.{Registers, written, Plain, depth}
-use Rattle.bl_cmd.specs.declared.command.Operand.{Operand}
-use Rattle.bl_cmd.specs.declared.command.Operand.TheVariants.{Const}
+use Rattle.bl_program.specs.Steps.{Registers, written, Plain, depth}
+use Rattle.bl_program.specs.declared.command.Operand.{Operand}
+use Rattle.bl_program.specs.declared.command.Operand.TheVariants.{Const}
 use Rattle.bl_lower.proofs.CodeLayout.{ToAt, TestsAt}
 use Rattle.bl_lower.proofs.Machine.{Program, plain_step}
 use Rattle.bl_lower.proofs.MatchStates.{Holds, Layout, Here}

@@ -18,11 +18,11 @@ use Rattle.bl_reduce.specs.Calls.{depth as source_depth, entered, enter, operand
 use Rattle.bl_reduce.specs.Configurations.{Store, Frame, State, Config, entering, go, trap, known}
 use Rattle.bl_base.proofs.Lists.{zip_reverse, zip_length}
 use Rattle.bl_access.specs.Templates.{arg_of, jump_to, shift}
-use Rattle.bl_cmd.specs.Steps.{Registers, written, Plain, depth, on}
-use Rattle.bl_cmd.specs.declared.command.Command.{Command}
-use Rattle.bl_cmd.specs.declared.command.Command.TheVariants.{Call as CallOf}
-use Rattle.bl_cmd.specs.declared.command.Operand.{Operand}
-use Rattle.bl_cmd.specs.declared.command.Operand.TheVariants.{Const}
+use Rattle.bl_program.specs.Steps.{Registers, written, Plain, depth, on}
+use Rattle.bl_program.specs.declared.command.Command.{Command}
+use Rattle.bl_program.specs.declared.command.Command.TheVariants.{Call as CallOf}
+use Rattle.bl_program.specs.declared.command.Operand.{Operand}
+use Rattle.bl_program.specs.declared.command.Operand.TheVariants.{Const}
 use Rattle.bl_lower.proofs.CodeLayout.{HasAt, AreNot, Fresh, live, IsLaidOut, Calls}
 use Rattle.bl_lower.proofs.Machine.{Program, states, plain_step}
 use Rattle.bl_lower.proofs.MatchStates.{Holds, AllHold, AreCallers, Here, ArgumentsAt, IsEntry, IsLowered, IsProgram}

@@ -18,11 +18,11 @@ use Rattle.bl_wasm.specs.declared.linked.Tree.{Tree}
 use Rattle.bl_wasm.specs.declared.types.BlockType.{BlockType}
 use Rattle.bl_wasm.proofs.LeadsLemmas.{typing_nests}
 use Rattle.bl_wasm.proofs.OpenConstructLemmas.{closes}
-use Rattle.bl_cmd.specs.declared.command.Command.{Command}
-use Rattle.bl_cmd.specs.declared.command.Command.TheVariants as command
-use Rattle.bl_cmd.specs.declared.command.Operand.{Operand}
-use Rattle.bl_cmd.specs.declared.command.Operand.TheVariants.{Const}
-use Rattle.bl_cmd.specs.Widths.{HasConstants, HasWidth}
+use Rattle.bl_program.specs.declared.command.Command.{Command}
+use Rattle.bl_program.specs.declared.command.Command.TheVariants as command
+use Rattle.bl_program.specs.declared.command.Operand.{Operand}
+use Rattle.bl_program.specs.declared.command.Operand.TheVariants.{Const}
+use Rattle.bl_program.specs.Widths.{HasConstants, HasWidth}
 use Rattle.bl_access.specs.Templates.{chain_from, jump_to, shift, test_of}
 use Rattle.bl_emit.specs.Shapes.{Counts, Shape, Slot, armed, bottom, result_reads, mistyped, uninitialized}
 use Rattle.bl_emit.specs.Constructs.{Point, Target, again, args, as_whole, behind, branched, first_to, inside, mark_of, moves, outs, pad, part, point, reads, start_of, taken, top, whole}

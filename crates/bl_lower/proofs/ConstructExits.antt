@@ -10,8 +10,8 @@ use Rattle.bl_reduce.specs.Configurations.{ControlLabel, State, go}
 use Rattle.bl_reduce.specs.Control.{leave_label}
 use Rattle.bl_base.proofs.Lists.{zip_reverse, zip_append, zip_length}
 use Rattle.bl_access.specs.Templates.{jump_to, shift}
-use Rattle.bl_cmd.specs.Steps.{Registers, Plain, depth}
-use Rattle.bl_cmd.specs.declared.command.Operand.{Operand}
+use Rattle.bl_program.specs.Steps.{Registers, Plain, depth}
+use Rattle.bl_program.specs.declared.command.Operand.{Operand}
 use Rattle.bl_lower.proofs.CodeLayout.{HasAt, Fresh, floor, live, IsLaidOut, EndsAt}
 use Rattle.bl_lower.proofs.Machine.{Program, plain_step}
 use Rattle.bl_lower.proofs.MatchStates.{Holds, AllHold, Layout, IsTarget, AreTargets, Here}

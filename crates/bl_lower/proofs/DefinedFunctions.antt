@@ -8,7 +8,7 @@ use Rattle.bl_wasm.specs.Linked.{IsFunction, IsLinked, type_of}
 use Rattle.bl_wasm.specs.declared.linked.Function.{Function}
 use Rattle.bl_wasm.specs.declared.linked.Signature.{Signature}
 use Rattle.bl_wasm.specs.declared.linked.Tree.{Tree}
-use Rattle.bl_cmd.specs.declared.definitions.FunctionDef.{FunctionDef}
+use Rattle.bl_program.specs.declared.definitions.FunctionDef.{FunctionDef}
 use Rattle.bl_lower.specs.Trees.{function_def, low_tree, results_by}
 use Rattle.bl_lower.proofs.TreeLayout.{params_of_type}
 

@@ -5,11 +5,11 @@ use Rattle.std.specs.List.{filter, range_with_len, zip}
 use Rattle.std.proofs.lemmas.List.{drop_more}
 use Rattle.bl_base.specs.declared.names.Label.{Label}
 use Rattle.bl_base.specs.declared.names.ValueType.{ValueType}
-use Rattle.bl_cmd.specs.declared.definitions.ParamDef.{ParamDef}
+use Rattle.bl_program.specs.declared.definitions.ParamDef.{ParamDef}
 use Rattle.bl_wasm.specs.declared.linked.Function.{Function}
-use Rattle.bl_cmd.specs.declared.definitions.Demand.{Demand}
-use Rattle.bl_cmd.specs.declared.definitions.Demand.TheVariants as demand
-use Rattle.bl_cmd.specs.declared.definitions.MemRow.{MemRow}
+use Rattle.bl_program.specs.declared.definitions.Demand.{Demand}
+use Rattle.bl_program.specs.declared.definitions.Demand.TheVariants as demand
+use Rattle.bl_program.specs.declared.definitions.MemRow.{MemRow}
 use Rattle.bl_lower.specs.Trees.{demanded_from, demanded_results, is_filled, param_def, memory_row_at}
 
 pub results_more : (functions : List Function) (n : ℕ) (function : Function) (all whole : List Demand) → n < length functions → function ≡ get_or functions n function

@@ -9,8 +9,8 @@ use Rattle.bl_wasm.specs.declared.linked.Tree.{Tree}
 use Rattle.bl_reduce.specs.Configurations.{Store, ControlLabel, Frame, State, Config, known, pop, pop_from, with_values}
 use Rattle.bl_reduce.specs.TypedConfigurations.{IsMemoryState}
 use Rattle.bl_base.proofs.Lists.{zip_length}
-use Rattle.bl_cmd.specs.Steps.{Registers, Plain, depth}
-use Rattle.bl_cmd.specs.declared.command.Operand.{Operand}
+use Rattle.bl_program.specs.Steps.{Registers, Plain, depth}
+use Rattle.bl_program.specs.declared.command.Operand.{Operand}
 use Rattle.bl_lower.proofs.CodeLayout.{floor}
 use Rattle.bl_lower.proofs.Machine.{Program, plain_step}
 use Rattle.bl_lower.proofs.MatchStates.{Holds, AllHold, IsOwn, Layout, IsStore, LocalsAt, AreTargets, IsFrame, Waits, AreCallers, Here, Matches}

@@ -7,9 +7,9 @@ use Rattle.bl_wasm.specs.declared.linked.Function.{Function}
 use Rattle.bl_wasm.specs.declared.linked.Tree.{Tree}
 use Rattle.bl_wasm.proofs.OpenConstructLemmas.{closes}
 use Rattle.bl_wasm.proofs.LeadsLemmas.{typing_nests}
-use Rattle.bl_cmd.specs.declared.command.Command.{Command}
-use Rattle.bl_cmd.specs.declared.command.Operand.{Operand}
-use Rattle.bl_cmd.specs.declared.command.Operand.TheVariants.{Const}
+use Rattle.bl_program.specs.declared.command.Command.{Command}
+use Rattle.bl_program.specs.declared.command.Operand.{Operand}
+use Rattle.bl_program.specs.declared.command.Operand.TheVariants.{Const}
 use Rattle.bl_access.specs.Templates.{jump_to}
 use Rattle.bl_emit.specs.Shapes.{Shape, bottom}
 use Rattle.bl_emit.specs.Constructs.{pad, moves, outs, Point}

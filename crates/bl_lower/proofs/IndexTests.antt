@@ -2,8 +2,8 @@
 use Rattle.std.proofs.Common.{◌≡◌, ℕ, suc, ◌+◌, ◌*◌, List, [], ◌∷◌, length, slice_get, refl, ap, ◌∙◌, arith}
 use Rattle.bl_access.specs.Templates.{chain_from, missed, set as set_command, test_of, variable}
 use Rattle.bl_ops.specs.declared.op.Op.TheVariants as op
-use Rattle.bl_cmd.specs.declared.command.Operand.{Operand}
-use Rattle.bl_cmd.specs.declared.command.Operand.TheVariants.{Const}
+use Rattle.bl_program.specs.declared.command.Operand.{Operand}
+use Rattle.bl_program.specs.declared.command.Operand.TheVariants.{Const}
 use Rattle.bl_emit.specs.Shapes.{Counts, Slot, armed, uninitialized, mistyped, Shape}
 use Rattle.bl_emit.specs.Constructs.{Target, mark_of}
 use Rattle.bl_emit.specs.Items.{branch_size, arms_from, arm_size, hits_from, hit_of, calls_in, results_in}

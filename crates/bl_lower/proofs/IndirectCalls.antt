@@ -14,10 +14,10 @@ use Rattle.bl_wasm.specs.TypeNumbers.{is_same_type}
 use Rattle.bl_reduce.specs.Calls.{call_at, call_through, call_indirect}
 use Rattle.bl_reduce.specs.Configurations.{State, trap, known, with_values}
 use Rattle.bl_access.specs.Templates.{jump_to, shift}
-use Rattle.bl_cmd.specs.Steps.{Registers, written, Plain, depth}
-use Rattle.bl_cmd.specs.declared.command.Command.TheVariants.{Trap, Call as CallOf}
-use Rattle.bl_cmd.specs.declared.command.Operand.{Operand}
-use Rattle.bl_cmd.specs.declared.command.Operand.TheVariants.{Const}
+use Rattle.bl_program.specs.Steps.{Registers, written, Plain, depth}
+use Rattle.bl_program.specs.declared.command.Command.TheVariants.{Trap, Call as CallOf}
+use Rattle.bl_program.specs.declared.command.Operand.{Operand}
+use Rattle.bl_program.specs.declared.command.Operand.TheVariants.{Const}
 use Rattle.bl_lower.proofs.CodeLayout.{HasAt, live, IsLaidOut, Indirect, SlotsFrom, SlotAt}
 use Rattle.bl_lower.proofs.Machine.{Program, value_of}
 use Rattle.bl_lower.proofs.MatchStates.{Holds, Here, IsProgram}

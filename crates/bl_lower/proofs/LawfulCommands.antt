@@ -7,14 +7,14 @@ use Rattle.bl_ops.specs.declared.op.Op.TheVariants as op
 use Rattle.bl_base.specs.declared.trap.Trap.{Trap as TrapKind}
 use Rattle.bl_wasm.specs.Linked.{IsLinked}
 use Rattle.bl_wasm.specs.declared.linked.Tree.{Tree}
-use Rattle.bl_cmd.specs.Layout.{size_of as size_variable, result as result_of}
-use Rattle.bl_cmd.specs.Programs.{IsCommand, ArePadded, arity}
-use Rattle.bl_cmd.specs.Rules.{IsOwn, IsResult, IsLocal, IsReadable, Rule4, Rule6, Rule8, GoesTo, Leaves, reach_of}
-use Rattle.bl_cmd.specs.Sites.{Names}
-use Rattle.bl_cmd.specs.declared.command.Command.{Command}
-use Rattle.bl_cmd.specs.declared.command.Command.TheVariants.{Call, Ret, Trap}
-use Rattle.bl_cmd.specs.declared.command.Operand.{Operand}
-use Rattle.bl_cmd.specs.declared.command.Operand.TheVariants.{Const}
+use Rattle.bl_program.specs.Layout.{size_of as size_variable, result as result_of}
+use Rattle.bl_program.specs.Programs.{IsCommand, ArePadded, arity}
+use Rattle.bl_program.specs.Rules.{IsOwn, IsResult, IsLocal, IsReadable, Rule4, Rule6, Rule8, GoesTo, Leaves, reach_of}
+use Rattle.bl_program.specs.Sites.{Names}
+use Rattle.bl_program.specs.declared.command.Command.{Command}
+use Rattle.bl_program.specs.declared.command.Command.TheVariants.{Call, Ret, Trap}
+use Rattle.bl_program.specs.declared.command.Operand.{Operand}
+use Rattle.bl_program.specs.declared.command.Operand.TheVariants.{Const}
 use Rattle.bl_access.specs.Templates.{variable, set_of, test_of, jump_to, arg_of, out_of, move}
 use Rattle.bl_emit.specs.Shapes.{Shape, result, bottom, result_reads}
 use Rattle.bl_emit.specs.Constructs.{moves, args, outs, mark_of, Target}

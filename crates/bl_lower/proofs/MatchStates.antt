@@ -12,10 +12,10 @@ use Rattle.bl_wasm.specs.declared.linked.Memory.{Memory}
 use Rattle.bl_wasm.specs.declared.linked.Tree.{Tree}
 use Rattle.bl_reduce.specs.TypedConfigurations.{IsMemoryState}
 use Rattle.bl_access.specs.Templates.{jump_to, shift}
-use Rattle.bl_cmd.specs.Steps.{Registers, Plain, depth}
-use Rattle.bl_cmd.specs.declared.command.Command.TheVariants.{Trap}
-use Rattle.bl_cmd.specs.declared.command.Operand.{Operand}
-use Rattle.bl_cmd.specs.declared.command.Operand.TheVariants.{Var, Const}
+use Rattle.bl_program.specs.Steps.{Registers, Plain, depth}
+use Rattle.bl_program.specs.declared.command.Command.TheVariants.{Trap}
+use Rattle.bl_program.specs.declared.command.Operand.{Operand}
+use Rattle.bl_program.specs.declared.command.Operand.TheVariants.{Var, Const}
 use Rattle.bl_lower.proofs.CodeLayout.{HasAt, live, target_point, floor, IsLaidOut, Stand}
 use Rattle.bl_lower.proofs.Machine.{space_of, Program}
 use Rattle.bl_emit.specs.Constructs.{reads, moves, mark_of, Target, point, taken, first_to}

@@ -4,8 +4,8 @@ use Rattle.std.specs.Prelude.{◌/◌}
 use Rattle.std.specs.List.{fold, filter, range_with_len}
 use Rattle.std.proofs.Math.Seq.{drop-append-add}
 use Rattle.std.proofs.lemmas.List.{append-nil, drop-replicate, drop-take, length-replicate, length-take-le, replicate-append-replicate, take-append-drop, take-take, take_all, take_at}
-use Rattle.bl_cmd.specs.Outcomes.{with_row}
-use Rattle.bl_cmd.specs.declared.definitions.MemRow.{MemRow}
+use Rattle.bl_program.specs.Outcomes.{with_row}
+use Rattle.bl_program.specs.declared.definitions.MemRow.{MemRow}
 use Rattle.bl_lower.specs.Trees.{memory_row_at, is_filled, rows_of}
 
 abbrev zeros : ℕ → List ℕ

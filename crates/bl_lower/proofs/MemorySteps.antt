@@ -24,10 +24,10 @@ use Rattle.bl_base.proofs.Lists.{zip_set, zip_got}
 use Rattle.bl_base.proofs.ByteLemmas.{length-bytes_of}
 use Rattle.bl_lower.proofs.CodeLayout.{guard, grows, HasAt}
 use Rattle.bl_access.specs.Templates.{variable, jump_to, load_of, shift, set as set_command, move}
-use Rattle.bl_cmd.specs.Steps.{Registers, written, Plain, depth, overlay, on}
-use Rattle.bl_cmd.specs.declared.command.Command.TheVariants.{Store}
-use Rattle.bl_cmd.specs.declared.command.Operand.{Operand}
-use Rattle.bl_cmd.specs.declared.command.Operand.TheVariants.{Const}
+use Rattle.bl_program.specs.Steps.{Registers, written, Plain, depth, overlay, on}
+use Rattle.bl_program.specs.declared.command.Command.TheVariants.{Store}
+use Rattle.bl_program.specs.declared.command.Operand.{Operand}
+use Rattle.bl_program.specs.declared.command.Operand.TheVariants.{Const}
 use Rattle.bl_lower.proofs.Machine.{Program, value_of, effective, place, plain_step, base, padded, space_of}
 use Rattle.bl_lower.proofs.MatchStates.{Holds, IsStore, Here, IsProgram}
 use Rattle.bl_emit.specs.Constructs.{Target, top}

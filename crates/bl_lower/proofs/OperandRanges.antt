@@ -1,8 +1,8 @@
 -- Operands that are variables from one on and below another, or constants.
 use Rattle.std.proofs.Common.{ℕ, zero, suc, ◌+◌, ◌<◌, ◌≤◌, List, [], ◌∷◌, ◌++◌, take, drop, reverse, sym, subst, arith}
 use Rattle.std.proofs.lemmas.List.{append-nil}
-use Rattle.bl_cmd.specs.declared.command.Operand.{Operand}
-use Rattle.bl_cmd.specs.declared.command.Operand.TheVariants.{Var, Const}
+use Rattle.bl_program.specs.declared.command.Operand.{Operand}
+use Rattle.bl_program.specs.declared.command.Operand.TheVariants.{Var, Const}
 use Rattle.bl_access.specs.Templates.{variable}
 use Rattle.bl_emit.specs.Constructs.{pad, reads, top}
 use Rattle.bl_emit.specs.Items.{left, right}

@@ -14,10 +14,10 @@ use Rattle.bl_wasm.specs.declared.linked.Tree.{Tree}
 use Rattle.bl_reduce.specs.Configurations.{State, with_values}
 use Rattle.bl_reduce.specs.Numeric.{apply, give, operate}
 use Rattle.bl_access.specs.Templates.{variable, test_of, shift, set as set_command}
-use Rattle.bl_cmd.specs.Steps.{Registers, written, Plain, depth}
-use Rattle.bl_cmd.specs.declared.command.Command.TheVariants.{Trap}
-use Rattle.bl_cmd.specs.declared.command.Operand.{Operand}
-use Rattle.bl_cmd.specs.declared.command.Operand.TheVariants.{Const}
+use Rattle.bl_program.specs.Steps.{Registers, written, Plain, depth}
+use Rattle.bl_program.specs.declared.command.Command.TheVariants.{Trap}
+use Rattle.bl_program.specs.declared.command.Operand.{Operand}
+use Rattle.bl_program.specs.declared.command.Operand.TheVariants.{Const}
 use Rattle.bl_lower.proofs.CodeLayout.{HasAt, Operates}
 use Rattle.bl_lower.proofs.Machine.{Program, value_of, states, plain_step}
 use Rattle.bl_lower.proofs.MatchStates.{Holds, AllHold, Layout, Here}

@@ -1,7 +1,7 @@
 -- The piece that a position lies in.
 use Rattle.std.proofs.Common.{◌≡◌, ℕ, ◌+◌, ◌<◌, ◌≤◌, List, [], ◌∷◌, length, refl, sym, ap, subst, arith, length-append, ◌⊎◌, inl, inr}
 use Rattle.std.proofs.lemmas.Bool.{cases_lt}
-use Rattle.bl_cmd.specs.declared.command.Command.{Command}
+use Rattle.bl_program.specs.declared.command.Command.{Command}
 use Rattle.bl_lower.proofs.CodeLayout.{HasAt}
 use Rattle.bl_lower.proofs.Pieces.{all_of, AllAt}
 use Rattle.bl_lower.proofs.PlainRuns.{has_front, has_back}

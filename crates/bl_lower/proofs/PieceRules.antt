@@ -4,11 +4,11 @@ use Rattle.std.specs.Prelude.{option_map}
 use Rattle.bl_ops.specs.declared.op.Op.TheVariants as op
 use Rattle.bl_wasm.specs.Linked.{IsLinked}
 use Rattle.bl_wasm.specs.declared.linked.Tree.{Tree}
-use Rattle.bl_cmd.specs.Layout.{size_of as size_variable}
-use Rattle.bl_cmd.specs.Rules.{IsLocal, Rule8, reach_of}
-use Rattle.bl_cmd.specs.declared.command.Command.{Command}
-use Rattle.bl_cmd.specs.declared.command.Operand.{Operand}
-use Rattle.bl_cmd.specs.declared.command.Operand.TheVariants.{Var, Const}
+use Rattle.bl_program.specs.Layout.{size_of as size_variable}
+use Rattle.bl_program.specs.Rules.{IsLocal, Rule8, reach_of}
+use Rattle.bl_program.specs.declared.command.Command.{Command}
+use Rattle.bl_program.specs.declared.command.Operand.{Operand}
+use Rattle.bl_program.specs.declared.command.Operand.TheVariants.{Var, Const}
 use Rattle.bl_access.specs.Templates.{shift, variable, jump_to, bounds, growth, chain_from, missed}
 use Rattle.bl_emit.specs.Shapes.{Shape, bottom}
 use Rattle.bl_emit.specs.Constructs.{reads, pad, moves, Target, taken, first_to, start_of, branched}

@@ -5,7 +5,7 @@ use Rattle.std.proofs.lemmas.Bool.{cases_lt}
 use Rattle.std.proofs.lemmas.Option.{same_Some}
 use Rattle.std.proofs.lemmas.List.{append-nil}
 use Rattle.bl_wasm.specs.declared.types.BlockType.{BlockType}
-use Rattle.bl_cmd.specs.declared.command.Command.{Command}
+use Rattle.bl_program.specs.declared.command.Command.{Command}
 use Rattle.bl_access.specs.Templates.{test_of, jump_to}
 use Rattle.bl_emit.specs.Shapes.{Counts, Shape}
 use Rattle.bl_emit.specs.Constructs.{top, pad, moves, Target, as_whole, mark_of, Point, behind}

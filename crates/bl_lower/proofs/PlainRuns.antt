@@ -8,10 +8,10 @@ use Rattle.bl_ops.specs.declared.op.Op.{Op}
 use Rattle.bl_ops.specs.Numerics.{meaning}
 use Rattle.bl_ops.specs.declared.op.Op.TheVariants as op
 use Rattle.bl_access.specs.Templates.{set_of, shift}
-use Rattle.bl_cmd.specs.Steps.{Registers, written, Plain, depth, on}
-use Rattle.bl_cmd.specs.declared.command.Command.{Command}
-use Rattle.bl_cmd.specs.declared.command.Operand.{Operand}
-use Rattle.bl_cmd.specs.declared.command.Operand.TheVariants.{Var, Const}
+use Rattle.bl_program.specs.Steps.{Registers, written, Plain, depth, on}
+use Rattle.bl_program.specs.declared.command.Command.{Command}
+use Rattle.bl_program.specs.declared.command.Operand.{Operand}
+use Rattle.bl_program.specs.declared.command.Operand.TheVariants.{Var, Const}
 use Rattle.bl_lower.proofs.CodeLayout.{HasAt, IsNot, AreNot, Fresh}
 use Rattle.bl_lower.proofs.Machine.{Program, place, value_of, perform, plain_step}
 use Rattle.bl_lower.proofs.MatchStates.{Holds, AllHold}

@@ -8,13 +8,13 @@ use Rattle.bl_ops.specs.Numerics.{meaning}
 use Rattle.bl_reduce.specs.Runnable.{IsRunnable}
 use Rattle.bl_wasm.specs.declared.linked.Memory.{Memory}
 use Rattle.bl_wasm.specs.declared.linked.Tree.{Tree}
-use Rattle.bl_cmd.specs.Layout.{size_of, result as result_of, param as param_of, running, sum_before}
-use Rattle.bl_cmd.specs.Outcomes.{space_of as spaces_of}
-use Rattle.bl_cmd.specs.Steps.{Registers, Plain, written, depth, held, on, to, loaded, stored, values_from, states_from as states_at, states as states_of, effective as effective_of, ret as ret_of, perform as perform_of, plain_step as step_of, value_of as value_in}
-use Rattle.bl_cmd.specs.declared.command.Command.{Command}
-use Rattle.bl_cmd.specs.declared.command.Command.TheVariants.{Set, Load, Store, Test, Jump, Arg, Call, Out, Ret, Trap}
-use Rattle.bl_cmd.specs.declared.command.Operand.{Operand}
-use Rattle.bl_cmd.specs.declared.command.Operand.TheVariants.{Var, Const}
+use Rattle.bl_program.specs.Layout.{size_of, result as result_of, param as param_of, running, sum_before}
+use Rattle.bl_program.specs.Outcomes.{space_of as spaces_of}
+use Rattle.bl_program.specs.Steps.{Registers, Plain, written, depth, held, on, to, loaded, stored, values_from, states_from as states_at, states as states_of, effective as effective_of, ret as ret_of, perform as perform_of, plain_step as step_of, value_of as value_in}
+use Rattle.bl_program.specs.declared.command.Command.{Command}
+use Rattle.bl_program.specs.declared.command.Command.TheVariants.{Set, Load, Store, Test, Jump, Arg, Call, Out, Ret, Trap}
+use Rattle.bl_program.specs.declared.command.Operand.{Operand}
+use Rattle.bl_program.specs.declared.command.Operand.TheVariants.{Var, Const}
 use Rattle.bl_emit.specs.Shapes.{Shape, result, param}
 use Rattle.bl_lower.specs.Trees.{global_def, memory_def, low_tree}
 use Rattle.bl_emit.specs.Numbers.{shape}

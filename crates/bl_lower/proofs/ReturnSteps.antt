@@ -9,9 +9,9 @@ use Rattle.bl_reduce.specs.Configurations.{Store, Frame, State}
 use Rattle.bl_reduce.specs.Returns.{return_to, return}
 use Rattle.bl_base.proofs.Lists.{zip_reverse, zip_append, zip_length}
 use Rattle.bl_access.specs.Templates.{jump_to, out_of, shift}
-use Rattle.bl_cmd.specs.Steps.{Registers, written, Plain, depth, on}
-use Rattle.bl_cmd.specs.declared.command.Command.TheVariants.{Ret}
-use Rattle.bl_cmd.specs.declared.command.Operand.{Operand}
+use Rattle.bl_program.specs.Steps.{Registers, written, Plain, depth, on}
+use Rattle.bl_program.specs.declared.command.Command.TheVariants.{Ret}
+use Rattle.bl_program.specs.declared.command.Operand.{Operand}
 use Rattle.bl_lower.proofs.CodeLayout.{HasAt, AreNot, Fresh, OutsAt, LeavesAt}
 use Rattle.bl_lower.proofs.Machine.{Program, value_of, results_from, states, plain_step, ret}
 use Rattle.bl_lower.proofs.MatchStates.{Holds, AllHold, Layout, IsStore, IsFrame, AreCallers, Here}

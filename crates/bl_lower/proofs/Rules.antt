@@ -7,12 +7,12 @@ use Rattle.bl_base.proofs.Lists.{all_get, within_get}
 use Rattle.bl_wasm.specs.Linked.{IsLinked, IsFunction}
 use Rattle.bl_wasm.specs.declared.linked.Function.{Function}
 use Rattle.bl_wasm.specs.declared.linked.Tree.{Tree}
-use Rattle.bl_cmd.specs.Layout.{entry_of, command_at, Holds}
-use Rattle.bl_cmd.specs.Programs.{IsCommand, IsProgram}
-use Rattle.bl_cmd.specs.Rules.{Rule4, Rule5, Rule6, GoesTo, Reach, reach_of}
-use Rattle.bl_cmd.specs.declared.command.Command.{Command}
-use Rattle.bl_cmd.specs.declared.command.Command.TheVariants.{Test, Jump, Trap}
-use Rattle.bl_cmd.proofs.Layouts.{holds_apart, held_by}
+use Rattle.bl_program.specs.Layout.{entry_of, command_at, Holds}
+use Rattle.bl_program.specs.Programs.{IsCommand, IsProgram}
+use Rattle.bl_program.specs.Rules.{Rule4, Rule5, Rule6, GoesTo, Reach, reach_of}
+use Rattle.bl_program.specs.declared.command.Command.{Command}
+use Rattle.bl_program.specs.declared.command.Command.TheVariants.{Test, Jump, Trap}
+use Rattle.bl_program.proofs.Layouts.{holds_apart, held_by}
 use Rattle.bl_lower.specs.Trees.{low_tree, low_function, function_def, step_bound}
 use Rattle.bl_emit.specs.Numbers.{shape, function_size}
 use Rattle.bl_lower.proofs.PiecePositions.{Found, Bounds, bounds_of, found_same, found_other, found_at, find, starts_found, found_stands}

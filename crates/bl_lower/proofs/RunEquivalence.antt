@@ -20,7 +20,7 @@ use Rattle.bl_reduce.specs.Steps.{source_step}
 use Rattle.bl_reduce.specs.TypedConfigurations.{IsTyped, IsTypedStep, IsValue}
 use Rattle.bl_reduce.proofs.Soundness.{preservation, progress, drop_head}
 use Rattle.bl_base.proofs.Lists.{all_get}
-use Rattle.bl_cmd.specs.Steps.{Plain}
+use Rattle.bl_program.specs.Steps.{Plain}
 use Rattle.bl_lower.proofs.Machine.{Program, plain_step}
 use Rattle.bl_lower.proofs.MatchStates.{IsProgram, Matches}
 use Rattle.bl_lower.proofs.BranchSteps.{IsSmall}

@@ -10,10 +10,10 @@ use Rattle.bl_wasm.specs.Linked.{function_type, HasImmediates}
 use Rattle.bl_wasm.specs.Typing.{expanded}
 use Rattle.bl_reduce.specs.Control.{enter_block, enter_loop, enter_if}
 use Rattle.bl_reduce.specs.Steps.{execute, frame_step, source_step}
-use Rattle.bl_cmd.specs.Steps.{Plain}
-use Rattle.bl_cmd.specs.declared.command.Command.TheVariants.{Trap}
-use Rattle.bl_cmd.specs.declared.command.Operand.{Operand}
-use Rattle.bl_cmd.specs.declared.command.Operand.TheVariants.{Const}
+use Rattle.bl_program.specs.Steps.{Plain}
+use Rattle.bl_program.specs.declared.command.Command.TheVariants.{Trap}
+use Rattle.bl_program.specs.declared.command.Operand.{Operand}
+use Rattle.bl_program.specs.declared.command.Operand.TheVariants.{Const}
 use Rattle.bl_lower.proofs.CodeLayout.{live, second_of, operands_of, IsLaidOut, ItemAt}
 use Rattle.bl_lower.proofs.Machine.{Program}
 use Rattle.bl_lower.proofs.MatchStates.{Here, IsProgram, Matches}

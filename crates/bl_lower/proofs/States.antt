@@ -6,7 +6,7 @@ use Rattle.bl_base.specs.Runs.{MemoryState}
 use Rattle.bl_wasm.specs.declared.linked.Memory.{Memory}
 use Rattle.bl_reduce.specs.Configurations.{Store}
 use Rattle.bl_reduce.specs.TypedConfigurations.{IsMemoryState}
-use Rattle.bl_cmd.specs.Steps.{Registers, Plain}
+use Rattle.bl_program.specs.Steps.{Registers, Plain}
 use Rattle.bl_lower.proofs.Machine.{Program, states_from, states, padded, space_of}
 use Rattle.bl_lower.proofs.MatchStates.{IsStore}
 use Rattle.bl_lower.proofs.MemorySpace.{padded_length}

@@ -12,9 +12,9 @@ use Rattle.bl_wasm.specs.declared.linked.Tree.{Tree}
 use Rattle.bl_reduce.specs.Configurations.{State, Config, go, push, pop, with_values}
 use Rattle.bl_reduce.specs.Variables.{local_get, local_set, local_tee, set_local, global_get, global_set, set_global}
 use Rattle.bl_access.specs.Templates.{variable, set_of, test_of, jump_to, move}
-use Rattle.bl_cmd.specs.Steps.{Registers, written, Plain, depth, on}
-use Rattle.bl_cmd.specs.declared.command.Operand.{Operand}
-use Rattle.bl_cmd.specs.declared.command.Operand.TheVariants.{Const}
+use Rattle.bl_program.specs.Steps.{Registers, written, Plain, depth, on}
+use Rattle.bl_program.specs.declared.command.Operand.{Operand}
+use Rattle.bl_program.specs.declared.command.Operand.TheVariants.{Const}
 use Rattle.bl_lower.proofs.CodeLayout.{live, IsLaidOut}
 use Rattle.bl_lower.proofs.Machine.{Program, value_of, plain_step}
 use Rattle.bl_lower.proofs.MatchStates.{Layout, LocalsAt, Here}

@@ -18,12 +18,12 @@ use Rattle.bl_wasm.specs.Validity.{locals_of}
 use Rattle.bl_wasm.specs.declared.linked.Function.{Function}
 use Rattle.bl_wasm.specs.declared.linked.Signature.{Signature}
 use Rattle.bl_wasm.specs.declared.linked.Tree.{Tree}
-use Rattle.bl_cmd.specs.Programs.{ArePadded, arity, arity_by}
-use Rattle.bl_cmd.specs.Rules.{IsLocal, Rule8, reach_of}
-use Rattle.bl_cmd.specs.declared.command.Command.{Command}
-use Rattle.bl_cmd.specs.declared.command.Command.TheVariants as command
-use Rattle.bl_cmd.specs.declared.command.Operand.{Operand}
-use Rattle.bl_cmd.specs.declared.command.Operand.TheVariants.{Var, Const}
+use Rattle.bl_program.specs.Programs.{ArePadded, arity, arity_by}
+use Rattle.bl_program.specs.Rules.{IsLocal, Rule8, reach_of}
+use Rattle.bl_program.specs.declared.command.Command.{Command}
+use Rattle.bl_program.specs.declared.command.Command.TheVariants as command
+use Rattle.bl_program.specs.declared.command.Operand.{Operand}
+use Rattle.bl_program.specs.declared.command.Operand.TheVariants.{Var, Const}
 use Rattle.bl_access.specs.Templates.{shift, variable, load_of, jump_to, set as set_command, move, bounds, growth}
 use Rattle.bl_emit.specs.Shapes.{Counts, Slot, armed, uninitialized, mistyped, Shape, local, bottom, result_reads}
 use Rattle.bl_emit.specs.Constructs.{pad, moves, args, mark_of, Target}

@@ -12,8 +12,8 @@ use Rattle.bl_reduce.specs.Runnable.{IsRunnable}
 use Rattle.bl_wasm.specs.declared.linked.Function.{Function}
 use Rattle.bl_wasm.specs.declared.linked.Signature.{Signature}
 use Rattle.bl_wasm.specs.declared.linked.Tree.{Tree}
-use Rattle.bl_cmd.specs.Layout.{sum_before, params_of, results_of, first_of, entry_of, statics as statics_of}
-use Rattle.bl_cmd.specs.declared.definitions.FunctionDef.{FunctionDef}
+use Rattle.bl_program.specs.Layout.{sum_before, params_of, results_of, first_of, entry_of, statics as statics_of}
+use Rattle.bl_program.specs.declared.definitions.FunctionDef.{FunctionDef}
 use Rattle.bl_lower.specs.Trees.{global_def, memory_def, function_def, params_by, results_by, param_def, low_tree}
 use Rattle.bl_emit.specs.Numbers.{counts_of, function_size, function_variables, total, shape, statics}
 

@@ -7,13 +7,13 @@ use Rattle.bl_wasm.specs.declared.instruction.Instr.TheVariants.{Loop, End, BrIf
 use Rattle.bl_wasm.specs.declared.types.BlockType.TheVariants.{Empty, Index}
 use Rattle.bl_wasm.specs.declared.linked.Signature.{Signature}
 use Rattle.bl_wasm.specs.declared.linked.Tree.{Tree}
-use Rattle.bl_cmd.specs.Outcomes.{opening}
-use Rattle.bl_cmd.specs.Steps.{Plain, plain_step}
-use Rattle.bl_cmd.specs.declared.command.Command.{Command}
-use Rattle.bl_cmd.specs.declared.command.Command.TheVariants as command
-use Rattle.bl_cmd.specs.declared.definitions.ProgramParts.{ProgramParts as Program}
-use Rattle.bl_cmd.specs.declared.command.Operand.TheVariants.{Const}
-use Rattle.bl_cmd.specs.declared.definitions.Demand.TheVariants as demand
+use Rattle.bl_program.specs.Outcomes.{opening}
+use Rattle.bl_program.specs.Steps.{Plain, plain_step}
+use Rattle.bl_program.specs.declared.command.Command.{Command}
+use Rattle.bl_program.specs.declared.command.Command.TheVariants as command
+use Rattle.bl_program.specs.declared.definitions.ProgramParts.{ProgramParts as Program}
+use Rattle.bl_program.specs.declared.command.Operand.TheVariants.{Const}
+use Rattle.bl_program.specs.declared.definitions.Demand.TheVariants as demand
 use Rattle.bl_access.specs.Templates.{variable, jump_to, load_of, test_of, set_of, arg_of, out_of, set, move}
 use Rattle.bl_base.specs.Runs.{Next, goes, ends, returned}
 use Rattle.bl_base.specs.declared.names.Label.TheVariants as label

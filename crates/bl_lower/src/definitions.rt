@@ -3,10 +3,10 @@ ghost use Rattle.std.specs.Prelude.{◌≡◌, ◌+◌, ◌*◌, ◌<◌, ◌≤
 ghost use Rattle.std.specs.List.{All, filter, range_with_len, zip};
 ghost use Rattle.bl_lower.specs.Trees.{demanded_from, demanded_results, export_def as export_of, function_def as function_of, global_def as global_of, is_filled as filled_of, memory_def as memory_of, param_def as param_of, memory_row_at, rows_of};
 ghost use Rattle.bl_emit.specs.Numbers.{function_size, function_variables};
-ghost use Rattle.bl_cmd.specs.declared.definitions.Demand.TheVariants as demand;
+ghost use Rattle.bl_program.specs.declared.definitions.Demand.TheVariants as demand;
 
 use bl_base::{Label, List, NoMemory, Text, ValueType};
-use bl_cmd::{Demand, ExportDef, FunctionDef, GlobalDef, MemRow, MemoryDef, ParamDef};
+use bl_program::{Demand, ExportDef, FunctionDef, GlobalDef, MemRow, MemoryDef, ParamDef};
 use bl_wasm::{Exports, Function, Memory, Tree};
 use std::alloc::Global;
 

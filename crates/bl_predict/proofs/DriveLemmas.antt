@@ -4,7 +4,7 @@ use Rattle.std.specs.Prelude.{if◌then◌else◌, get_or, not, IfOk, IsSome, Re
 use Rattle.std.specs.Option.{is_some}
 use Rattle.bl_base.specs.declared.memory.NoMemory.{NoMemory}
 use Rattle.bl_base.specs.declared.start.Start.{Start}
-use Rattle.bl_cmd.specs.declared.definitions.ProgramParts.{ProgramParts as Program}
+use Rattle.bl_program.specs.declared.definitions.ProgramParts.{ProgramParts as Program}
 use Rattle.bl_rob.specs.Machines.{State, directive_step, end_in}
 use Rattle.bl_rob.specs.declared.directive.Directive.{Directive}
 use Rattle.bl_rob.specs.declared.directive.End.{End}

@@ -4,7 +4,7 @@ use Rattle.std.specs.Prelude.{if◌then◌else◌, cond, IfSome}
 use Rattle.std.specs.List.{All, find, range_with_len}
 use Rattle.std.proofs.lemmas.List.{length-append}
 use Rattle.std.proofs.lemmas.List.Elements.{All-push}
-use Rattle.bl_cmd.specs.declared.definitions.ProgramParts.{ProgramParts as Program}
+use Rattle.bl_program.specs.declared.definitions.ProgramParts.{ProgramParts as Program}
 use Rattle.bl_rob.specs.CallResults.{is_enabled}
 use Rattle.bl_rob.specs.Machines.{State, directive_step, end_in, opening}
 use Rattle.bl_rob.specs.Observations.{Rules, after_by, go_on, observed_by, see}

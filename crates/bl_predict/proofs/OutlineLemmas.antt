@@ -4,8 +4,8 @@ use Rattle.std.specs.Prelude.{if◌then◌else◌, slice_get}
 use Rattle.bl_ops.specs.OperatorTable.{is_division}
 use Rattle.bl_ops.specs.declared.access.AccessKind.{AccessKind}
 use Rattle.bl_ops.specs.declared.op.Op.{Op}
-use Rattle.bl_cmd.specs.Steps.{Registers}
-use Rattle.bl_cmd.specs.declared.definitions.ProgramParts.{ProgramParts as Program}
+use Rattle.bl_program.specs.Steps.{Registers}
+use Rattle.bl_program.specs.declared.definitions.ProgramParts.{ProgramParts as Program}
 use Rattle.bl_rob.specs.Machines.{State, Fetched, Straight, Branch, Nowhere, at_position, ended_at, before, grown, fetch, guess, predict, rolled_back, acted, exec_entry, retire_work, retire, has_room, has_guard, has_store, guards as mask_of, valued, assigns, loads, stores, frees, judges, agree, truth, act, directive_step}
 use Rattle.bl_rob.specs.Observations.{go_on, after, Observed, see, observed_from}
 use Rattle.bl_rob.specs.declared.directive.Directive.{Directive}

@@ -4,7 +4,7 @@ use Rattle.std.specs.Prelude.{if◌then◌else◌, ◌&&◌, slice_get}
 use Rattle.bl_base.specs.declared.number.Pos.{Pos}
 use Rattle.bl_ops.specs.OperatorTable.{is_division}
 use Rattle.bl_ops.specs.declared.op.Op.{Op}
-use Rattle.bl_cmd.specs.declared.definitions.ProgramParts.{ProgramParts as Program}
+use Rattle.bl_program.specs.declared.definitions.ProgramParts.{ProgramParts as Program}
 use Rattle.bl_rob.specs.CallResults.{IsEntryKind, is_enabled, is_some, kind_of}
 use Rattle.bl_rob.specs.Machines.{State, assigns, loads, stores, frees, judges, agree, truth, has_store, has_guard, acted, directive_step, exec_entry}
 use Rattle.bl_rob.specs.declared.directive.Directive.TheVariants.{Exec}

@@ -3,7 +3,7 @@ use Rattle.std.specs.Prelude.{◌≡◌, ℕ, zero, suc, ◌+◌, ◌-◌, ◌%�
 use Rattle.std.specs.List.{find, range_with_len}
 use Rattle.bl_base.specs.Runs.{outcome_of}
 use Rattle.bl_base.specs.declared.start.Start.{Start}
-use Rattle.bl_cmd.specs.declared.definitions.ProgramParts.{ProgramParts as Program}
+use Rattle.bl_program.specs.declared.definitions.ProgramParts.{ProgramParts as Program}
 use Rattle.bl_rob.specs.CallResults.{is_enabled, is_some, outcome_in, position_of, shown}
 use Rattle.bl_rob.specs.Machines.{State, opening, directive_step, end_in, exec_entry}
 use Rattle.bl_rob.specs.declared.directive.Directive.{Directive}

@@ -1,13 +1,13 @@
 //! Drives.
 ghost use Rattle.std.specs.Prelude.{◌≡◌, ◌<◌, ◌^◌, ◌-◌, IfOk, IfSome, OnOk, length, replicate};
-ghost use Rattle.bl_cmd.specs.Outcomes.{IsStart};
+ghost use Rattle.bl_program.specs.Outcomes.{IsStart};
 ghost use Rattle.bl_rob.specs.{CallResults.shown, Machines.directive_step};
 ghost use Rattle.bl_predict.specs.Drives.{HasRoom, IsDriven, begun, counted, driven, drive_state, guard_of, is_rollback, judged, moved, after_observation, drive_step, stepped, touched};
 
 use crate::cache::Cache;
 use crate::choice::choose;
 use bl_base::{List, NoMemory, Run, Start};
-use bl_cmd::WellFormed;
+use bl_program::WellFormed;
 use bl_rob::{Directive, Kind, Observation, Rob};
 use std::alloc::Global;
 

@@ -1,7 +1,7 @@
 //! Laws. Each function is its contract alone.
 ghost use Rattle.std.specs.Prelude.{◌≡◌, ℕ, true, IsSomeAnd, List, None};
 ghost use Rattle.bl_base.specs.declared.start.Start.{Start};
-ghost use Rattle.bl_cmd.specs.{Outcomes.Agree, declared.definitions.ProgramParts.ProgramParts, Programs.IsProgram, Rules.IsWellFormed};
+ghost use Rattle.bl_program.specs.{Outcomes.Agree, declared.definitions.ProgramParts.ProgramParts, Programs.IsProgram, Rules.IsWellFormed};
 ghost use Rattle.bl_rob.specs.{CallResults.is_enabled, Machines.State, Machines.end_in, ReachableStates.IsReached};
 ghost use Rattle.bl_rob.specs.Observations.{HasEqualObservations, observed, reached};
 ghost use Rattle.bl_rob.specs.declared.directive.Directive.{Directive};

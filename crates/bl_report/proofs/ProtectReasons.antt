@@ -5,8 +5,8 @@ use Rattle.std.specs.List.{Contains, count_by, find}
 use Rattle.std.proofs.lemmas.Bool.{cases_Bool, eqb-true, eq-eqb, false≢true}
 use Rattle.std.proofs.lemmas.List.Elements.{All-contains}
 use Rattle.bl_base.proofs.Members.{first_in, in_cases, later_in, listed as in_listed, lists, none_in}
-use Rattle.bl_cmd.specs.Sites.{is_protected}
-use Rattle.bl_cmd.specs.declared.definitions.ProgramParts.{ProgramParts as Program}
+use Rattle.bl_program.specs.Sites.{is_protected}
+use Rattle.bl_program.specs.declared.definitions.ProgramParts.{ProgramParts as Program}
 use Rattle.bl_graph.specs.Certificates.{Certifies, IsFlowPath, sites_of}
 use Rattle.bl_graph.specs.Ranges.{AreInRange}
 use Rattle.bl_graph.specs.declared.certificate.Certificate.{Certificate}

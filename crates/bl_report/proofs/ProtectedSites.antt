@@ -7,10 +7,10 @@ use Rattle.std.proofs.lemmas.List.{append_assoc}
 use Rattle.std.proofs.lemmas.List.Elements.{All-cons, All-nil}
 use Rattle.std.proofs.lemmas.List.Sums.{count_by_more_no, count_by_more_yes}
 use Rattle.std.proofs.lemmas.Option.{slice_get-get_or}
-use Rattle.bl_cmd.specs.Sites.{IsSite, is_protected, listed, mark_at, mark_of}
-use Rattle.bl_cmd.specs.declared.command.Command.TheVariants.{Ret}
-use Rattle.bl_cmd.specs.declared.command.Mark.{Mark}
-use Rattle.bl_cmd.specs.declared.definitions.ProgramParts.{ProgramParts as Program}
+use Rattle.bl_program.specs.Sites.{IsSite, is_protected, listed, mark_at, mark_of}
+use Rattle.bl_program.specs.declared.command.Command.TheVariants.{Ret}
+use Rattle.bl_program.specs.declared.command.Mark.{Mark}
+use Rattle.bl_program.specs.declared.definitions.ProgramParts.{ProgramParts as Program}
 use Rattle.bl_report.specs.Reports.{is_site, protects}
 
 -- what is protected is a site

@@ -4,9 +4,9 @@ use Rattle.std.specs.Fmt.{decimal}
 use Rattle.std.specs.List.{Contains, filter, find, flat_map, list_any, range_with_len}
 use Rattle.std.specs.Option.{is_some, option_map_or}
 use Rattle.bl_base.specs.declared.number.Pos.{Pos}
-use Rattle.bl_cmd.specs.Sites.{is_protected, mark_of, site_weight, weight_of}
-use Rattle.bl_cmd.specs.declared.command.Command.{Command}
-use Rattle.bl_cmd.specs.declared.definitions.ProgramParts.{ProgramParts as Program}
+use Rattle.bl_program.specs.Sites.{is_protected, mark_of, site_weight, weight_of}
+use Rattle.bl_program.specs.declared.command.Command.{Command}
+use Rattle.bl_program.specs.declared.definitions.ProgramParts.{ProgramParts as Program}
 use Rattle.bl_graph.specs.Certificates.{IsFlowPath, sites_of}
 use Rattle.bl_graph.specs.declared.certificate.Certificate.{Certificate}
 use Rattle.bl_graph.specs.declared.certificate.FlowPath.{FlowPath}

@@ -2,7 +2,7 @@
 use Rattle.std.specs.Prelude.{◌≡◌, ℕ, Bool, false, List, nat_eq, Option, Some, None, option_map, slice_get, unwrap_or, if◌then◌else◌}
 use Rattle.std.specs.List.{list_any, slice_index_or}
 use Rattle.std.specs.Option.{option_or}
-use Rattle.bl_cmd.specs.declared.command.Mark.{Mark}
+use Rattle.bl_program.specs.declared.command.Mark.{Mark}
 use Rattle.bl_graph.specs.declared.certificate.FlowPath.{FlowPath}
 use Rattle.bl_report.specs.Reports.{first_path}
 

@@ -1,6 +1,6 @@
 //! Laws of reports. Each function is its contract alone.
 ghost use Rattle.std.specs.Prelude.{ℕ, IsTrue};
-ghost use Rattle.bl_cmd.specs.{Programs.IsProgram, Rules.IsWellFormed, Sites.is_protected, declared.definitions.ProgramParts.ProgramParts};
+ghost use Rattle.bl_program.specs.{Programs.IsProgram, Rules.IsWellFormed, Sites.is_protected, declared.definitions.ProgramParts.ProgramParts};
 ghost use Rattle.bl_graph.specs.{Certificates.Certifies, declared.certificate.Certificate.Certificate};
 ghost use Rattle.bl_report.specs.Reports.{HasReason};
 

@@ -1,14 +1,14 @@
 //! The lines of protects.
 ghost use Rattle.std.specs.Prelude.{◌≡◌, ◌++◌, All, IfOk};
 ghost use Rattle.std.specs.{Fmt.decimal, List.flat_map};
-ghost use Rattle.bl_cmd.specs.Sites.{IsSite};
+ghost use Rattle.bl_program.specs.Sites.{IsSite};
 ghost use Rattle.bl_report.specs.SiteTables.{IsFirst};
 ghost use Rattle.bl_report.specs.Reports.{bare_protect_line, bare_protect_text, place_text, protect_line, protect_text};
 
 use crate::first::first_paths;
 use bl_base::{NoMemory, Pos};
-use bl_cmd::{WellFormed, site_weight};
 use bl_graph::FlowPath;
+use bl_program::{WellFormed, site_weight};
 use itoa::Buffer;
 use std::alloc::Global;
 

@@ -3,7 +3,7 @@ ghost use Rattle.std.specs.Prelude.{◌≡◌, ◌+◌, ◌++◌, ◌<◌, ◌^�
 ghost use Rattle.bl_report.specs.{SiteTables.is_protect, Reports.protects, Reports.site_count};
 
 use bl_base::NoMemory;
-use bl_cmd::{Mark, ProgramParts, mark_at};
+use bl_program::{Mark, ProgramParts, mark_at};
 use std::alloc::Global;
 
 /// A program's sites, which are the commands that write a variable whose value can be protected.

@@ -1,6 +1,6 @@
 //! The report.
 ghost use Rattle.std.specs.Prelude.{◌≡◌, IfOk};
-ghost use Rattle.bl_cmd.specs.Sites.{is_protected, weight_of};
+ghost use Rattle.bl_program.specs.Sites.{is_protected, weight_of};
 ghost use Rattle.bl_graph.specs.Certificates.{Certifies};
 ghost use Rattle.bl_ct.specs.Verdicts.{Judges};
 ghost use Rattle.bl_report.specs.Reports.{counts_text, protects, protects_text, report_text, site_count, summary_text};
@@ -9,9 +9,9 @@ use crate::lines::{push_bare_protects, push_protects};
 use crate::secrets::push_constant_time;
 use crate::sites::{Sites, sites_of};
 use bl_base::{NoMemory, Text};
-use bl_cmd::{ProgramParts, WellFormed};
 use bl_ct::CtVerdict;
 use bl_graph::Certificate;
+use bl_program::{ProgramParts, WellFormed};
 use std::alloc::Global;
 
 /// The report of a program whose protects a certificate shows to be the least, with the verdict on constant time: how many

@@ -7,12 +7,12 @@ use Rattle.bl_base.specs.Runs.{Next, goes, ends, stuck, StepsTo, EndsAfter, last
 use Rattle.bl_base.proofs.RunLemmas.{comes_then, comes_to_end}
 use Rattle.bl_base.specs.declared.start.Start.{Start}
 use Rattle.bl_base.specs.declared.trap.Trap.{Trap}
-use Rattle.bl_cmd.specs.Layout.{command_at}
-use Rattle.bl_cmd.specs.Outcomes.{opening as plain_opening}
-use Rattle.bl_cmd.specs.Steps.{Registers, Plain, plain_step}
-use Rattle.bl_cmd.specs.declared.command.Command.{Command}
-use Rattle.bl_cmd.specs.declared.command.Command.TheVariants as command
-use Rattle.bl_cmd.specs.declared.definitions.ProgramParts.{ProgramParts as Program}
+use Rattle.bl_program.specs.Layout.{command_at}
+use Rattle.bl_program.specs.Outcomes.{opening as plain_opening}
+use Rattle.bl_program.specs.Steps.{Registers, Plain, plain_step}
+use Rattle.bl_program.specs.declared.command.Command.{Command}
+use Rattle.bl_program.specs.declared.command.Command.TheVariants as command
+use Rattle.bl_program.specs.declared.definitions.ProgramParts.{ProgramParts as Program}
 use Rattle.bl_rob.specs.Machines.{State, at_position, ended_at, opening, end_of, end_in, Fetched, Straight, Branch, Nowhere, fetched, fetched_from, before, grown, fetch, predict, act, rolled_back, acted, exec_entry, truth, agree, retire_work, retire, has_room, directive_step, outcome_by}
 use Rattle.bl_rob.specs.Observations.{Rules, go_on, after_by, reached, IsConsistentBy, IsConsistent}
 use Rattle.bl_rob.specs.declared.directive.Directive.{Directive}

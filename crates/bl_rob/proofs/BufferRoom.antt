@@ -4,7 +4,7 @@ use Rattle.std.specs.Prelude.{nat_lt, slice_get, Result, Ok, Err}
 use Rattle.std.specs.Option.{ok_or}
 use Rattle.std.proofs.lemmas.Bool.{ltb-true}
 use Rattle.std.proofs.lemmas.List.{length-append}
-use Rattle.bl_cmd.specs.declared.definitions.ProgramParts.{ProgramParts as Program}
+use Rattle.bl_program.specs.declared.definitions.ProgramParts.{ProgramParts as Program}
 use Rattle.bl_rob.specs.CallResults.{ComesBy, Steps, Executes}
 use Rattle.bl_rob.specs.Machines.{State, Fetched, Straight, Branch, Nowhere, before, fetch, guess, predict, act, rolled_back, acted, exec_entry, retire_work, retire, has_room, directive_step}
 use Rattle.bl_rob.specs.declared.directive.Directive.{Directive}

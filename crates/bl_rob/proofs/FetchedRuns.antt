@@ -6,13 +6,13 @@ use Rattle.bl_base.specs.Runs.{Outcome, Next, goes, ends, stuck}
 use Rattle.bl_base.specs.declared.trap.Trap.TheVariants as trap_kind
 use Rattle.bl_ops.specs.Numerics.{meaning}
 use Rattle.bl_ops.specs.declared.op.Op.TheVariants.{Move}
-use Rattle.bl_cmd.specs.Layout.{command_at, entry_of}
-use Rattle.bl_cmd.specs.Steps.{Registers, Plain, value_at, to, perform, plain_step}
-use Rattle.bl_cmd.specs.declared.command.Command.{Command}
-use Rattle.bl_cmd.specs.declared.command.Command.TheVariants.{Set, Load, Store, Test, Jump, Arg, Call, Out, Ret, Trap}
-use Rattle.bl_cmd.specs.declared.command.Operand.{Operand}
-use Rattle.bl_cmd.specs.declared.command.Operand.TheVariants.{Var, Const}
-use Rattle.bl_cmd.specs.declared.definitions.ProgramParts.{ProgramParts as Program}
+use Rattle.bl_program.specs.Layout.{command_at, entry_of}
+use Rattle.bl_program.specs.Steps.{Registers, Plain, value_at, to, perform, plain_step}
+use Rattle.bl_program.specs.declared.command.Command.{Command}
+use Rattle.bl_program.specs.declared.command.Command.TheVariants.{Set, Load, Store, Test, Jump, Arg, Call, Out, Ret, Trap}
+use Rattle.bl_program.specs.declared.command.Operand.{Operand}
+use Rattle.bl_program.specs.declared.command.Operand.TheVariants.{Var, Const}
+use Rattle.bl_program.specs.declared.definitions.ProgramParts.{ProgramParts as Program}
 use Rattle.bl_rob.specs.Machines.{State, at_position, ended_at, Straight, fetched, before, source_of, outcome_by}
 use Rattle.bl_rob.specs.declared.directive.End.{End}
 use Rattle.bl_rob.specs.declared.directive.End.TheVariants as ending

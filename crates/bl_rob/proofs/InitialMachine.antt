@@ -1,10 +1,10 @@
 -- The machine before its first step.
 use Rattle.std.proofs.Common.{◌≡◌, ℕ, ◌≤◌, List, [], length, ap, ◌∙◌, subst, sym, arith}
 use Rattle.bl_base.specs.declared.start.Start.{Start}
-use Rattle.bl_cmd.specs.Layout.{entry_of}
-use Rattle.bl_cmd.specs.Outcomes.{opening as plain_opening}
-use Rattle.bl_cmd.specs.Steps.{Registers, Plain}
-use Rattle.bl_cmd.specs.declared.definitions.ProgramParts.{ProgramParts as Program}
+use Rattle.bl_program.specs.Layout.{entry_of}
+use Rattle.bl_program.specs.Outcomes.{opening as plain_opening}
+use Rattle.bl_program.specs.Steps.{Registers, Plain}
+use Rattle.bl_program.specs.declared.definitions.ProgramParts.{ProgramParts as Program}
 use Rattle.bl_rob.specs.Machines.{State, at_position, opening}
 use Rattle.bl_rob.specs.declared.entry.Entry.{Entry}
 

@@ -2,7 +2,7 @@
 use Rattle.std.proofs.Common.{◌≡◌, ℕ, ◌≤◌, length, Option, Some, None, refl, sym, ap, ◌∙◌, subst, arith}
 use Rattle.std.specs.Prelude.{Bool, Result, Ok, Err}
 use Rattle.std.specs.Option.{ok_or}
-use Rattle.bl_cmd.specs.declared.definitions.ProgramParts.{ProgramParts as Program}
+use Rattle.bl_program.specs.declared.definitions.ProgramParts.{ProgramParts as Program}
 use Rattle.bl_rob.specs.CallResults.{ComesBy, Executes, NeedsMemory, Steps, StepsBy, is_enabled_by, is_some}
 use Rattle.bl_rob.specs.LoadPolicies.{answer_as, told_as}
 use Rattle.bl_rob.specs.Machines.{State, directive_step}

@@ -6,11 +6,11 @@ use Rattle.std.proofs.lemmas.List.{length-append}
 use Rattle.std.proofs.lemmas.Option.{get_or_from_slice_get}
 use Rattle.bl_base.specs.declared.number.Pos.{Pos}
 use Rattle.bl_base.proofs.Lists.{within_get}
-use Rattle.bl_cmd.specs.Layout.{command_at}
-use Rattle.bl_cmd.specs.declared.command.Command.{Command}
-use Rattle.bl_cmd.specs.declared.command.Command.TheVariants as command
-use Rattle.bl_cmd.specs.declared.command.Operand.{Operand}
-use Rattle.bl_cmd.specs.declared.definitions.ProgramParts.{ProgramParts as Program}
+use Rattle.bl_program.specs.Layout.{command_at}
+use Rattle.bl_program.specs.declared.command.Command.{Command}
+use Rattle.bl_program.specs.declared.command.Command.TheVariants as command
+use Rattle.bl_program.specs.declared.command.Operand.{Operand}
+use Rattle.bl_program.specs.declared.definitions.ProgramParts.{ProgramParts as Program}
 use Rattle.bl_rob.specs.CallResults.{ComesBy, Steps, command_from, next_command, rolled_back_at}
 use Rattle.bl_rob.specs.Machines.{State, at_position, fetched, fetched_from, grown, fetch, source_of, guess, predict, has_room, directive_step, is_guard, become, rolled_back}
 use Rattle.bl_rob.specs.declared.directive.Directive.TheVariants.{Predict}

@@ -5,7 +5,7 @@ use Rattle.std.specs.List.{fold}
 use Rattle.std.proofs.lemmas.Bool.{cond-true, cond-false}
 use Rattle.std.proofs.lemmas.List.Elements.{All-cons, All-head, All-nil, All-tail}
 use Rattle.std.proofs.Math.Seq.{split_at}
-use Rattle.bl_cmd.specs.Steps.{Registers}
+use Rattle.bl_program.specs.Steps.{Registers}
 use Rattle.bl_rob.specs.LastWriters.{NoneWrites, Sees, is_target, target_of, unwritten, value_of, writes, written}
 use Rattle.bl_rob.specs.Machines.{behind, visible}
 use Rattle.bl_rob.specs.declared.entry.Entry.{Entry}

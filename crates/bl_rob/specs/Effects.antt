@@ -1,7 +1,7 @@
 -- What entries do when they are retired.
 use Rattle.std.specs.Prelude.{List, [], ◌∷◌, Option, Some, None}
-use Rattle.bl_cmd.specs.Steps.{written, effective, stored}
-use Rattle.bl_cmd.specs.declared.definitions.ProgramParts.{ProgramParts as Program}
+use Rattle.bl_program.specs.Steps.{written, effective, stored}
+use Rattle.bl_program.specs.declared.definitions.ProgramParts.{ProgramParts as Program}
 use Rattle.bl_rob.specs.Machines.{State, ended_at, without}
 use Rattle.bl_rob.specs.declared.directive.End.TheVariants as ending
 use Rattle.bl_rob.specs.declared.directive.Observation.{Observation}

@@ -2,7 +2,7 @@
 -- register's own value where none of them writes it.
 use Rattle.std.specs.Prelude.{◌≡◌, ℕ, Bool, true, false, List, ◌∷◌, ◌++◌, Option, Some, None}
 use Rattle.std.specs.List.{All}
-use Rattle.bl_cmd.specs.Steps.{Registers}
+use Rattle.bl_program.specs.Steps.{Registers}
 use Rattle.bl_rob.specs.Machines.{is_at}
 use Rattle.bl_rob.specs.declared.entry.Entry.{Entry}
 use Rattle.bl_rob.specs.declared.entry.Register.{Register}

@@ -2,11 +2,11 @@
 use Rattle.std.specs.Prelude.{◌≡◌, ◌≤◌, ℕ, suc, Contains, List, [], ◌∷◌, Option, Some, None}
 use Rattle.bl_base.specs.Runs.{StepsTo, EndsAfter}
 use Rattle.bl_base.specs.declared.start.Start.{Start}
-use Rattle.bl_cmd.specs.Layout.{result}
-use Rattle.bl_cmd.specs.Outcomes.{Agree}
-use Rattle.bl_cmd.specs.Steps.{Plain, plain_step}
-use Rattle.bl_cmd.specs.declared.definitions.Demand.TheVariants as demand
-use Rattle.bl_cmd.specs.declared.definitions.ProgramParts.{ProgramParts as Program}
+use Rattle.bl_program.specs.Layout.{result}
+use Rattle.bl_program.specs.Outcomes.{Agree}
+use Rattle.bl_program.specs.Steps.{Plain, plain_step}
+use Rattle.bl_program.specs.declared.definitions.Demand.TheVariants as demand
+use Rattle.bl_program.specs.declared.definitions.ProgramParts.{ProgramParts as Program}
 use Rattle.bl_rob.specs.Machines.{State, opening, directive_step, end_in, outcome_by}
 use Rattle.bl_rob.specs.declared.directive.Directive.{Directive}
 use Rattle.bl_rob.specs.declared.directive.End.{End}

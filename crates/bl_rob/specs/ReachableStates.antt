@@ -1,8 +1,8 @@
 -- The states that a machine comes to.
 use Rattle.std.specs.Prelude.{◌≡◌, ℕ, Some}
 use Rattle.bl_base.specs.declared.start.Start.{Start}
-use Rattle.bl_cmd.specs.Outcomes.{IsStart}
-use Rattle.bl_cmd.specs.declared.definitions.ProgramParts.{ProgramParts as Program}
+use Rattle.bl_program.specs.Outcomes.{IsStart}
+use Rattle.bl_program.specs.declared.definitions.ProgramParts.{ProgramParts as Program}
 use Rattle.bl_rob.specs.Machines.{State, directive_step, opening}
 use Rattle.bl_rob.specs.Observations.{Rules}
 use Rattle.bl_rob.specs.declared.directive.Directive.{Directive}

@@ -1,5 +1,5 @@
 -- What contracts see of the machine.
-use Rattle.bl_cmd.specs.declared.definitions.ProgramParts.{ProgramParts}
+use Rattle.bl_program.specs.declared.definitions.ProgramParts.{ProgramParts}
 use Rattle.bl_rob.specs.declared.machine.Machine.{Machine}
 
 -- the program, and the machine between two steps

@@ -1,6 +1,6 @@
 //! Entries of the buffer.
 ghost use Rattle.std.specs.Prelude.{◌≡◌, ◌<◌, ◌*◌, ◌^◌, IsTrue};
-ghost use Rattle.bl_cmd.specs.Steps.{loaded};
+ghost use Rattle.bl_program.specs.Steps.{loaded};
 ghost use Rattle.bl_ops.specs.Access.{extended, is_load, width_of};
 
 use crate::chain::Chain;

@@ -1,8 +1,8 @@
 //! Fetching and predicting.
 ghost use Rattle.std.specs.Prelude.{◌≡◌, ◌≤◌, ◌<◌, ◌++◌, ◌∷◌, [], ℕ, Bool, List, suc, IfErr, IfOk, IsTrue, None, OnErr, OnOk, Some, length};
 ghost use Rattle.bl_ops.specs.Access.{is_load};
-ghost use Rattle.bl_cmd.specs.Layout.{entry_of, param, result as variable_of_result, running};
-ghost use Rattle.bl_cmd.specs.{Programs.IsCommand, declared.definitions.ProgramParts.ProgramParts};
+ghost use Rattle.bl_program.specs.Layout.{entry_of, param, result as variable_of_result, running};
+ghost use Rattle.bl_program.specs.{Programs.IsCommand, declared.definitions.ProgramParts.ProgramParts};
 ghost use Rattle.bl_seq.specs.Layouts.{IsLayout};
 ghost use Rattle.bl_rob.specs.CallResults.{Steps, front_in, is_enabled, next_command, shown, work_in};
 ghost use Rattle.bl_rob.specs.Machines.{at_position, back, called, ended_at, fetched, grown, moved, register_of, source_of};
@@ -15,8 +15,8 @@ use crate::directive::{End, Observation, StepError};
 use crate::entry::{Entry, LoadKind, Register, Source, Work};
 use crate::machine::Machine;
 use bl_base::{MOST_CALLS, NoMemory, Pos, Trap, Var};
-use bl_cmd::{Command, Mark, Operand};
 use bl_ops::{AccessKind, Op};
+use bl_program::{Command, Mark, Operand};
 use bl_seq::Layout;
 use std::alloc::Global;
 

@@ -1,7 +1,7 @@
 //! Laws of the buffer machine. Each function is its contract alone.
 ghost use Rattle.std.specs.Prelude.{◌≡◌, ◌↔◌, ℕ, List, Option as Optional};
 ghost use Rattle.bl_base.specs.declared.start.Start.{Start};
-ghost use Rattle.bl_cmd.specs.{Outcomes.opening as plain_opening, Steps.Registers as Held, declared.definitions.ProgramParts.ProgramParts};
+ghost use Rattle.bl_program.specs.{Outcomes.opening as plain_opening, Steps.Registers as Held, declared.definitions.ProgramParts.ProgramParts};
 ghost use Rattle.bl_rob.specs.{LastWriters.Sees, Machines.visible, Observations.IsConsistent, Observations.reached};
 ghost use Rattle.bl_rob.specs.{declared.directive.Directive.Directive, declared.entry.Entry.Entry, declared.entry.Register.Register};
 

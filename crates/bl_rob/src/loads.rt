@@ -1,6 +1,6 @@
 //! Kinds of speculation: when an entry may be executed, what it comes to, and what is shown of it.
 ghost use Rattle.std.specs.Prelude.{◌≡◌, ◌≤◌, ◌<◌, ◌^◌, ℕ, IfOk, length};
-ghost use Rattle.bl_cmd.specs.declared.definitions.ProgramParts.{ProgramParts};
+ghost use Rattle.bl_program.specs.declared.definitions.ProgramParts.{ProgramParts};
 ghost use Rattle.bl_seq.specs.Layouts.{IsLayout};
 ghost use Rattle.bl_rob.specs.CallResults.{IsRunOf, StepsBy, is_enabled_by, outcome_in, shown};
 ghost use Rattle.bl_rob.specs.LoadPolicies.{IsNoExec, answer_as, told_as, told_itself};

@@ -1,6 +1,6 @@
 //! The machine between two steps, and what executing an entry of it comes to.
 ghost use Rattle.std.specs.Prelude.{◌≡◌, ◌≤◌, ◌<◌, ◌^◌, IfOk, Some, length};
-ghost use Rattle.bl_cmd.specs.{Outcomes.IsStart, Steps.effective};
+ghost use Rattle.bl_program.specs.{Outcomes.IsStart, Steps.effective};
 ghost use Rattle.bl_seq.specs.Layouts.{IsLayout};
 ghost use Rattle.bl_rob.specs.CallResults.{act_at, shown};
 ghost use Rattle.bl_rob.specs.Machines.{act, assigns, frees, guards, has_guard, has_store, judges, loads, opening, stores, valued, visible_of};

@@ -1,6 +1,6 @@
 //! The buffer machine as its callers see it.
 ghost use Rattle.std.specs.Prelude.{◌≡◌, ◌≤◌, IfOk, slice_get, slice_index, option_map};
-ghost use Rattle.bl_cmd.specs.Outcomes.{IsStart};
+ghost use Rattle.bl_program.specs.Outcomes.{IsStart};
 ghost use Rattle.bl_rob.specs.CallResults.{IsEntryKind, StepsBy, IsRunOf, is_enabled_by, outcome_in, position_of, shown};
 ghost use Rattle.bl_rob.specs.Machines.{end_in, opening};
 ghost use Rattle.bl_rob.specs.declared.directive.Directive.TheVariants.{Exec, Fetch, Predict, Retire};
@@ -9,7 +9,7 @@ use crate::directive::{Directive, End, Kind, StepError};
 use crate::loads::{Loads, Plain, told};
 use crate::machine::Machine;
 use bl_base::{NoMemory, Pos, Run, Start, Var};
-use bl_cmd::WellFormed;
+use bl_program::WellFormed;
 use bl_seq::Layout;
 use std::alloc::Global;
 use std::marker::{Model, PhantomData};

@@ -1,6 +1,6 @@
 //! Executing and retiring.
 ghost use Rattle.std.specs.Prelude.{◌≡◌, ◌≤◌, ◌<◌, ◌^◌, ℕ, [], suc, IfSome, IsTrue, OnErr, OnOk, Some, drop, length, slice_get, take};
-ghost use Rattle.bl_cmd.specs.{Steps.stored, Steps.written, declared.definitions.ProgramParts.ProgramParts};
+ghost use Rattle.bl_program.specs.{Steps.stored, Steps.written, declared.definitions.ProgramParts.ProgramParts};
 ghost use Rattle.bl_seq.specs.Layouts.{IsLayout};
 ghost use Rattle.bl_rob.specs.CallResults.{Executes, Steps, is_enabled, shown, rolled_back_at};
 ghost use Rattle.bl_rob.specs.{Effects.effect_of, Effects.first_effect, declared.entry.Entry.Entry};

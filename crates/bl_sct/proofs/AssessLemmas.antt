@@ -1,10 +1,10 @@
 -- From the two verdicts to the one on two runs.
 use Rattle.std.proofs.Common.{◌≡◌, ℕ, Bool, Option, Some, None, subst}
 use Rattle.std.specs.Prelude.{IsTrue}
-use Rattle.bl_cmd.specs.Programs.{IsProgram}
-use Rattle.bl_cmd.specs.Rules.{IsWellFormed}
-use Rattle.bl_cmd.specs.Sites.{is_protected}
-use Rattle.bl_cmd.specs.declared.definitions.ProgramParts.{ProgramParts as Program}
+use Rattle.bl_program.specs.Programs.{IsProgram}
+use Rattle.bl_program.specs.Rules.{IsWellFormed}
+use Rattle.bl_program.specs.Sites.{is_protected}
+use Rattle.bl_program.specs.declared.definitions.ProgramParts.{ProgramParts as Program}
 use Rattle.bl_graph.specs.Labels.{ConstantTime}
 use Rattle.bl_transient.specs.Transient.{Assigns, Trans, loaded, moved, given}
 use Rattle.bl_transient.specs.Verdicts.{IsFirstLeak}

@@ -12,14 +12,14 @@ use Rattle.bl_base.specs.Runs.{MemoryState}
 use Rattle.bl_base.specs.declared.names.Label.{Label}
 use Rattle.bl_base.specs.declared.names.Label.TheVariants.{Public, Secret}
 use Rattle.bl_base.specs.declared.start.Start.{Start}
-use Rattle.bl_cmd.specs.Layout.{sum_before, first_of, param}
-use Rattle.bl_cmd.specs.Outcomes.{first_memory, first_memories, padded, space_of, first_registers, opening, IsStart, Agree}
-use Rattle.bl_cmd.specs.Programs.{IsProgram}
-use Rattle.bl_cmd.specs.Rules.{IsMemory, IsWellFormed}
-use Rattle.bl_cmd.specs.declared.definitions.FunctionDef.{FunctionDef}
-use Rattle.bl_cmd.specs.declared.definitions.MemoryDef.{MemoryDef}
-use Rattle.bl_cmd.specs.declared.definitions.ParamDef.{ParamDef}
-use Rattle.bl_cmd.specs.declared.definitions.ProgramParts.{ProgramParts as Program}
+use Rattle.bl_program.specs.Layout.{sum_before, first_of, param}
+use Rattle.bl_program.specs.Outcomes.{first_memory, first_memories, padded, space_of, first_registers, opening, IsStart, Agree}
+use Rattle.bl_program.specs.Programs.{IsProgram}
+use Rattle.bl_program.specs.Rules.{IsMemory, IsWellFormed}
+use Rattle.bl_program.specs.declared.definitions.FunctionDef.{FunctionDef}
+use Rattle.bl_program.specs.declared.definitions.MemoryDef.{MemoryDef}
+use Rattle.bl_program.specs.declared.definitions.ParamDef.{ParamDef}
+use Rattle.bl_program.specs.declared.definitions.ProgramParts.{ProgramParts as Program}
 use Rattle.bl_graph.specs.Labels.{KeepsLabelRules}
 use Rattle.bl_graph.specs.declared.secret.Origin.TheVariants.{Parameter}
 use Rattle.bl_seq.specs.InitialMemories.{AreSized}

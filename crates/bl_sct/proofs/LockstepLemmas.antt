@@ -3,10 +3,10 @@ use Rattle.std.proofs.Common.{◌≡◌, ℕ, zero, suc, Bool, Some, None, refl,
 use Rattle.std.specs.Prelude.{not}
 use Rattle.bl_base.proofs.RunLemmas.{one_next, run_after, run_pos}
 use Rattle.bl_base.specs.Runs.{Outcome, Next, goes, ends, stuck, HasStep, StepsTo, EndsAfter}
-use Rattle.bl_cmd.specs.Programs.{IsProgram}
-use Rattle.bl_cmd.specs.Rules.{IsWellFormed}
-use Rattle.bl_cmd.specs.Steps.{Plain, plain_step}
-use Rattle.bl_cmd.specs.declared.definitions.ProgramParts.{ProgramParts as Program}
+use Rattle.bl_program.specs.Programs.{IsProgram}
+use Rattle.bl_program.specs.Rules.{IsWellFormed}
+use Rattle.bl_program.specs.Steps.{Plain, plain_step}
+use Rattle.bl_program.specs.declared.definitions.ProgramParts.{ProgramParts as Program}
 use Rattle.bl_graph.specs.Labels.{KeepsLabelRules}
 use Rattle.bl_seq.proofs.OwnSteps.{Reached, has_step}
 use Rattle.bl_rob.specs.Machines.{at_position, before, outcome_by}

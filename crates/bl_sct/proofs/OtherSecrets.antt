@@ -7,14 +7,14 @@ use Rattle.std.specs.Prelude.{not, nat_lt, if◌then◌else◌, slice_index, IsT
 use Rattle.bl_base.specs.declared.names.Label.{Label}
 use Rattle.bl_base.specs.declared.names.Label.TheVariants.{Public, Secret}
 use Rattle.bl_base.specs.declared.start.Start.{Start}
-use Rattle.bl_cmd.specs.Layout.{base, size_of}
-use Rattle.bl_cmd.specs.Outcomes.{first_registers, opening as plain_opening, Agree}
-use Rattle.bl_cmd.specs.Programs.{IsProgram}
-use Rattle.bl_cmd.specs.Rules.{IsWellFormed}
-use Rattle.bl_cmd.specs.Sites.{is_protected}
-use Rattle.bl_cmd.specs.Steps.{Plain}
-use Rattle.bl_cmd.specs.declared.definitions.GlobalDef.{GlobalDef}
-use Rattle.bl_cmd.specs.declared.definitions.ProgramParts.{ProgramParts as Program}
+use Rattle.bl_program.specs.Layout.{base, size_of}
+use Rattle.bl_program.specs.Outcomes.{first_registers, opening as plain_opening, Agree}
+use Rattle.bl_program.specs.Programs.{IsProgram}
+use Rattle.bl_program.specs.Rules.{IsWellFormed}
+use Rattle.bl_program.specs.Sites.{is_protected}
+use Rattle.bl_program.specs.Steps.{Plain}
+use Rattle.bl_program.specs.declared.definitions.GlobalDef.{GlobalDef}
+use Rattle.bl_program.specs.declared.definitions.ProgramParts.{ProgramParts as Program}
 use Rattle.bl_graph.specs.Labels.{KeepsLabelRules, ConstantTime}
 use Rattle.bl_graph.specs.declared.secret.Origin.TheVariants.{Global}
 use Rattle.bl_transient.specs.Transient.{Flows, Passes}

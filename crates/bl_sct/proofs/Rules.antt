@@ -5,17 +5,18 @@ use Rattle.bl_base.specs.Quantity.{most_calls}
 use Rattle.bl_base.specs.declared.names.Label.{Label}
 use Rattle.bl_base.specs.declared.names.Label.TheVariants.{Public, Secret}
 use Rattle.bl_base.proofs.BoolLemmas.{each_true}
+use Rattle.bl_base.proofs.OptionLemmas.{with_some}
 use Rattle.bl_ops.specs.OperatorTable.{is_division}
 use Rattle.bl_ops.specs.declared.op.Op.TheVariants.{Move}
-use Rattle.bl_cmd.specs.Layout.{param, result, running, command_at}
-use Rattle.bl_cmd.specs.Sites.{Names, Among, mark_of, Loads, written_by, moved_by, sunk_by, is_protected}
-use Rattle.bl_cmd.specs.declared.command.Command.{Command}
-use Rattle.bl_cmd.specs.declared.command.Command.TheVariants as command
-use Rattle.bl_cmd.specs.declared.command.Mark.{Mark}
-use Rattle.bl_cmd.specs.declared.command.Operand.{Operand}
-use Rattle.bl_cmd.specs.declared.command.Operand.TheVariants as operand
-use Rattle.bl_cmd.specs.declared.definitions.MemoryDef.{MemoryDef}
-use Rattle.bl_cmd.specs.declared.definitions.ProgramParts.{ProgramParts as Program}
+use Rattle.bl_program.specs.Layout.{param, result, running, command_at}
+use Rattle.bl_program.specs.Sites.{Names, Among, mark_of, Loads, written_by, moved_by, sunk_by, is_protected}
+use Rattle.bl_program.specs.declared.command.Command.{Command}
+use Rattle.bl_program.specs.declared.command.Command.TheVariants as command
+use Rattle.bl_program.specs.declared.command.Mark.{Mark}
+use Rattle.bl_program.specs.declared.command.Operand.{Operand}
+use Rattle.bl_program.specs.declared.command.Operand.TheVariants as operand
+use Rattle.bl_program.specs.declared.definitions.MemoryDef.{MemoryDef}
+use Rattle.bl_program.specs.declared.definitions.ProgramParts.{ProgramParts as Program}
 use Rattle.bl_graph.specs.Labels.{KeepsLabelRules}
 use Rattle.bl_graph.specs.Secrets.{TakesSecret, GivesPublic}
 use Rattle.bl_transient.specs.Transient.{Flows}
@@ -48,10 +49,6 @@ fine clear program depth (operand.Var x) h = h x.0 refl
 fine clear program depth (operand.Const number) h = tt
 
 -- ---- at a command
-
--- what holds of the command at a position
-stands : (program : Program) (p : ℕ) (k : Command) (P : Command → Type 0) → command_at program p ≡ Some k → P k → IsSomeAnd (command_at program p) P
-stands program p k P e h = subst (λ o. IsSomeAnd o P) (sym e) h
 
 -- what is read of a site that isn't protected
 free : (program : Program) (p : ℕ) (k : Command) → command_at program p ≡ Some k → unwrap_or (option_map (λ (mark : Mark). mark.protect) (mark_of k)) false ≡ false
@@ -93,19 +90,19 @@ module _ (program : Program) (labelling : ℕ → Bool) (ok : KeepsLabelRules pr
 
   module _ (p : ℕ) (k : Command) (e : command_at program p ≡ Some k) where
     public_sink : (x : ℕ) → Among (sunk_by k) x → IsTrue (public x)
-    public_sink x h = ok.sinks p x (stands program p k (λ c. Among (sunk_by c) x) e h)
+    public_sink x h = ok.sinks p x (with_some (command_at program p) (λ c. Among (sunk_by c) x) k e h)
 
     public_move : (x y : ℕ) → Among (moved_by k) x → written_by program p k ≡ Some y → IsTrue (public y) → IsTrue (public x)
     public_move x y h w =
         rolled_back (labelling x) (labelling y)
-        (ok.assigns.moves p x y (stands program p k (λ c. Among (moved_by c) x) e h) (stands program p k (λ c. written_by program p c ≡ Some y) e w))
+        (ok.assigns.moves p x y (with_some (command_at program p) (λ c. Among (moved_by c) x) k e h) (with_some (command_at program p) (λ c. written_by program p c ≡ Some y) k e w))
 
     public_store : (x : ℕ) → GivesPublic program k x → IsTrue (public x)
-    public_store x h = ok.stores p x (stands program p k (λ c. GivesPublic program c x) e h)
+    public_store x h = ok.stores p x (with_some (command_at program p) (λ c. GivesPublic program c x) k e h)
 
     public_load : (memory y : ℕ) → TakesSecret program k memory → written_by program p k ≡ Some y → IsTrue (public y) → ⊥
     public_load memory y h w q =
-        let secret = ok.assigns.loads p memory y (stands program p k (λ c. TakesSecret program c memory) e h) (stands program p k (λ c. written_by program p c ≡ Some y) e w) in
+        let secret = ok.assigns.loads p memory y (with_some (command_at program p) (λ c. TakesSecret program c memory) k e h) (with_some (command_at program p) (λ c. written_by program p c ≡ Some y) k e w) in
         opposite (labelling y) secret q
       where
         opposite : (b : Bool) → IsTrue b → IsTrue (not b) → ⊥
@@ -189,14 +186,14 @@ module _ (program : Program) (typing labelling : ℕ → Bool) (flows : Flows pr
 
   module _ (p : ℕ) (k : Command) (e : command_at program p ≡ Some k) where
     clear_sink : (x : ℕ) → Among (sunk_by k) x → IsTrue (clear x)
-    clear_sink x h = both_is _ _ (flows.sinks p x (stands program p k (λ c. Among (sunk_by c) x) e h)) (public_sink program labelling ok p k e x h)
+    clear_sink x h = both_is _ _ (flows.sinks p x (with_some (command_at program p) (λ c. Among (sunk_by c) x) k e h)) (public_sink program labelling ok p k e x h)
 
     clear_move : (x y : ℕ) → Among (moved_by k) x → written_by program p k ≡ Some y → IsTrue (not (is_protected program p)) → IsTrue (clear y) → IsTrue (clear x)
     clear_move x y h w open_ q =
         let parts = each_true (not (typing y)) (not (labelling y)) q in
         both_is _ _
         (rolled_back (typing x) (typing y)
-        (flows.assigns.moves p x y (stands program p k (λ c. Among (moved_by c) x) e h) (stands program p k (λ c. written_by program p c ≡ Some y) e w) open_) parts.0)
+        (flows.assigns.moves p x y (with_some (command_at program p) (λ c. Among (moved_by c) x) k e h) (with_some (command_at program p) (λ c. written_by program p c ≡ Some y) k e w) open_) parts.0)
         (public_move program labelling ok p k e x y h w parts.1)
 
   call_keeps : (few : Bool) (one other : Fetched) → KeepsOf clear one → KeepsOf clear other → KeepsOf clear (if few then one else other)
@@ -227,7 +224,7 @@ module _ (program : Program) (typing labelling : ℕ → Bool) (flows : Flows pr
       let k : Command = command.Load mark kind memory to offset address in (
         fine clear program (suc (length chain)) address (λ x n. clear_sink p k e x (inl n)),
         λ f q. unstable (typing to.0) (not (labelling to.0))
-            (flows.assigns.loads p to.0 (stands program p k Loads e tt) (stands program p k (λ c. written_by program p c ≡ Some to.0) e refl) (free program p k e f)) q,
+            (flows.assigns.loads p to.0 (with_some (command_at program p) Loads k e tt) (with_some (command_at program p) (λ c. written_by program p c ≡ Some to.0) k e refl) (free program p k e f)) q,
       )
   keeps_at p chain (Some (command.Store kind memory offset address value)) e =
       fine clear program (suc (length chain)) address (λ x n. clear_sink p (command.Store kind memory offset address value) e x (inl n))

@@ -15,18 +15,18 @@ use Rattle.bl_base.proofs.ByteLemmas.{length-bytes_of}
 use Rattle.bl_ops.specs.Access.{extended, narrowed, width_of}
 use Rattle.bl_ops.specs.declared.access.AccessKind.{AccessKind}
 use Rattle.bl_ops.specs.declared.access.AccessKind.TheVariants.{I32Load}
-use Rattle.bl_cmd.proofs.Layouts.{sum_item, sum_apart}
-use Rattle.bl_cmd.specs.Layout.{base, command_at}
-use Rattle.bl_cmd.specs.Programs.{IsProgram}
-use Rattle.bl_cmd.specs.Rules.{IsWellFormed}
-use Rattle.bl_cmd.specs.Steps.{Registers, Plain, written, effective, loaded, stored, value_at, overlay, plain_step}
-use Rattle.bl_cmd.specs.declared.command.Command.{Command}
-use Rattle.bl_cmd.specs.declared.command.Command.TheVariants as command
-use Rattle.bl_cmd.specs.declared.command.Operand.{Operand}
-use Rattle.bl_cmd.specs.declared.command.Operand.TheVariants as operand
-use Rattle.bl_cmd.specs.declared.definitions.MemoryDef.{MemoryDef}
-use Rattle.bl_cmd.specs.declared.definitions.ProgramParts.{ProgramParts as Program}
-use Rattle.bl_cmd.proofs.ByteAgreement.{parts, overlay_same, overlay_other}
+use Rattle.bl_program.proofs.Layouts.{sum_item, sum_apart}
+use Rattle.bl_program.specs.Layout.{base, command_at}
+use Rattle.bl_program.specs.Programs.{IsProgram}
+use Rattle.bl_program.specs.Rules.{IsWellFormed}
+use Rattle.bl_program.specs.Steps.{Registers, Plain, written, effective, loaded, stored, value_at, overlay, plain_step}
+use Rattle.bl_program.specs.declared.command.Command.{Command}
+use Rattle.bl_program.specs.declared.command.Command.TheVariants as command
+use Rattle.bl_program.specs.declared.command.Operand.{Operand}
+use Rattle.bl_program.specs.declared.command.Operand.TheVariants as operand
+use Rattle.bl_program.specs.declared.definitions.MemoryDef.{MemoryDef}
+use Rattle.bl_program.specs.declared.definitions.ProgramParts.{ProgramParts as Program}
+use Rattle.bl_program.proofs.ByteAgreement.{parts, overlay_same, overlay_other}
 use Rattle.bl_graph.specs.Labels.{KeepsLabelRules}
 use Rattle.bl_seq.specs.OwnMemory.{IsInside}
 use Rattle.bl_seq.proofs.OwnAccesses.{inside}

@@ -1,7 +1,7 @@
 -- The verdict on a program: whether two runs from starts that agree in public are observed alike.
 use Rattle.std.specs.Prelude.{ℕ}
-use Rattle.bl_cmd.specs.Sites.{is_protected}
-use Rattle.bl_cmd.specs.declared.definitions.ProgramParts.{ProgramParts as Program}
+use Rattle.bl_program.specs.Sites.{is_protected}
+use Rattle.bl_program.specs.declared.definitions.ProgramParts.{ProgramParts as Program}
 use Rattle.bl_graph.specs.Labels.{ConstantTime}
 use Rattle.bl_graph.specs.SecretChains.{IsSecretChain}
 use Rattle.bl_rob.specs.Observations.{HasEqualObservations}

@@ -1,14 +1,14 @@
 //! Whether a program is safe under speculation.
 ghost use Rattle.std.specs.Prelude.{IfOk};
-ghost use Rattle.bl_cmd.specs.Sites.{is_protected};
+ghost use Rattle.bl_program.specs.Sites.{is_protected};
 ghost use Rattle.bl_graph.specs.{Graphs.IsGraph, Labels.ConstantTime};
 ghost use Rattle.bl_sct.specs.Verdicts.{Assesses};
 ghost use Rattle.bl_transient.specs.Verdicts.{IsFirstLeak};
 
 use bl_base::{NoMemory, Pos};
-use bl_cmd::WellFormed;
 use bl_ct::secret_chain_of;
 use bl_graph::{Graph, SecretChain, graph};
+use bl_program::WellFormed;
 use bl_transient::{first_leak_of, own_protects};
 use std::alloc::Global;
 

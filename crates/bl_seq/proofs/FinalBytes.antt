@@ -12,15 +12,15 @@ use Rattle.bl_base.specs.declared.start.Patch.{Patch}
 use Rattle.bl_base.specs.declared.start.Start.{Start}
 use Rattle.bl_base.specs.declared.trap.Trap.TheVariants as trap_kind
 use Rattle.bl_base.proofs.RunLemmas.{IsEnd, IsNext}
-use Rattle.bl_cmd.specs.Layout.{entry_of, size_of, command_at, sum_before}
-use Rattle.bl_cmd.specs.Outcomes.{IsStart, first_memories, first_memory, opening, padded, space_of}
-use Rattle.bl_cmd.specs.Programs.{IsProgram}
-use Rattle.bl_cmd.specs.Rules.{IsMemory, IsWellFormed}
-use Rattle.bl_cmd.specs.Steps.{Plain, Registers, depth, effective, perform, plain_step, ret, states, states_from, to, value_of}
-use Rattle.bl_cmd.specs.declared.command.Command.{Command}
-use Rattle.bl_cmd.specs.declared.command.Command.TheVariants.{Set, Load, Store, Test, Call, Ret, Trap}
-use Rattle.bl_cmd.specs.declared.definitions.MemoryDef.{MemoryDef}
-use Rattle.bl_cmd.specs.declared.definitions.ProgramParts.{ProgramParts as Program}
+use Rattle.bl_program.specs.Layout.{entry_of, size_of, command_at, sum_before}
+use Rattle.bl_program.specs.Outcomes.{IsStart, first_memories, first_memory, opening, padded, space_of}
+use Rattle.bl_program.specs.Programs.{IsProgram}
+use Rattle.bl_program.specs.Rules.{IsMemory, IsWellFormed}
+use Rattle.bl_program.specs.Steps.{Plain, Registers, depth, effective, perform, plain_step, ret, states, states_from, to, value_of}
+use Rattle.bl_program.specs.declared.command.Command.{Command}
+use Rattle.bl_program.specs.declared.command.Command.TheVariants.{Set, Load, Store, Test, Call, Ret, Trap}
+use Rattle.bl_program.specs.declared.definitions.MemoryDef.{MemoryDef}
+use Rattle.bl_program.specs.declared.definitions.ProgramParts.{ProgramParts as Program}
 use Rattle.bl_seq.specs.FinalMemories.{EndsWhole, IsWhole, memories_at, pages_at}
 use Rattle.bl_seq.specs.Machines.{RunsTo}
 use Rattle.bl_seq.specs.InitialMemories.{AreSized}

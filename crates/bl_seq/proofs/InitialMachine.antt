@@ -13,12 +13,12 @@ use Rattle.bl_base.specs.declared.start.Patch.{Patch}
 use Rattle.bl_base.specs.declared.start.Start.{Start}
 use Rattle.bl_base.proofs.Lists.{zip_got, zip_set, get_mapped}
 use Rattle.std.proofs.Math.Path.{fun_ext}
-use Rattle.bl_cmd.specs.Layout.{entry_of, first_of}
-use Rattle.bl_cmd.specs.Outcomes.{first_memories, first_memory, first_registers, opening, space_of, with_row}
-use Rattle.bl_cmd.specs.Steps.{Plain}
-use Rattle.bl_cmd.specs.declared.definitions.MemRow.{MemRow}
-use Rattle.bl_cmd.specs.declared.definitions.MemoryDef.{MemoryDef}
-use Rattle.bl_cmd.specs.declared.definitions.ProgramParts.{ProgramParts as Program}
+use Rattle.bl_program.specs.Layout.{entry_of, first_of}
+use Rattle.bl_program.specs.Outcomes.{first_memories, first_memory, first_registers, opening, space_of, with_row}
+use Rattle.bl_program.specs.Steps.{Plain}
+use Rattle.bl_program.specs.declared.definitions.MemRow.{MemRow}
+use Rattle.bl_program.specs.declared.definitions.MemoryDef.{MemoryDef}
+use Rattle.bl_program.specs.declared.definitions.ProgramParts.{ProgramParts as Program}
 use Rattle.bl_seq.specs.RegisterTrees.{File, register_at, filled}
 use Rattle.bl_seq.specs.InitialMemories.{IsSized, AreSized, LiesInside}
 use Rattle.bl_seq.proofs.RegisterWrites.{fill_before, fill_apart, fill_behind}

@@ -7,12 +7,12 @@ use Rattle.std.proofs.lemmas.List.{get_or_past}
 use Rattle.std.proofs.lemmas.List.Elements.{All-get_or}
 use Rattle.std.specs.List.{All}
 use Rattle.bl_base.proofs.Lists.{all_get, within_get}
-use Rattle.bl_cmd.specs.Layout.{sum_before, number_at, holding, running, statics, first_of, params_of, results_of, base}
-use Rattle.bl_cmd.specs.Rules.{IsFunction, Rule1, Rule2}
-use Rattle.bl_cmd.specs.declared.definitions.FunctionDef.{FunctionDef}
-use Rattle.bl_cmd.specs.declared.definitions.MemoryDef.{MemoryDef}
-use Rattle.bl_cmd.specs.declared.definitions.ProgramParts.{ProgramParts as Program}
-use Rattle.bl_cmd.proofs.Layouts.{number_is, next_first}
+use Rattle.bl_program.specs.Layout.{sum_before, number_at, holding, running, statics, first_of, params_of, results_of, base}
+use Rattle.bl_program.specs.Rules.{IsFunction, Rule1, Rule2}
+use Rattle.bl_program.specs.declared.definitions.FunctionDef.{FunctionDef}
+use Rattle.bl_program.specs.declared.definitions.MemoryDef.{MemoryDef}
+use Rattle.bl_program.specs.declared.definitions.ProgramParts.{ProgramParts as Program}
+use Rattle.bl_program.proofs.Layouts.{number_is, next_first}
 use Rattle.bl_seq.specs.Layouts.{frame_of, frames_from, owners_from, ends_from}
 use Rattle.bl_seq.specs.declared.layout.Frame.{Frame}
 

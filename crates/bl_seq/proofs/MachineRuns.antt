@@ -6,9 +6,9 @@ use Rattle.bl_base.specs.Runs.{Outcome, Next, goes, ends, stuck, StepsTo, EndsAf
 use Rattle.bl_base.specs.declared.run.Run.{Run}
 use Rattle.bl_base.specs.declared.start.Start.{Start}
 use Rattle.bl_base.proofs.RunLemmas.{comes_then, comes_to_end, run_after, run_pos}
-use Rattle.bl_cmd.specs.Outcomes.{IsStart, opening, plain}
-use Rattle.bl_cmd.specs.Steps.{Plain, plain_step}
-use Rattle.bl_cmd.specs.declared.definitions.ProgramParts.{ProgramParts as Program}
+use Rattle.bl_program.specs.Outcomes.{IsStart, opening, plain}
+use Rattle.bl_program.specs.Steps.{Plain, plain_step}
+use Rattle.bl_program.specs.declared.definitions.ProgramParts.{ProgramParts as Program}
 use Rattle.bl_seq.specs.RegisterTrees.{File, register_at}
 use Rattle.bl_seq.specs.Machines.{RunsTo, next_of, told}
 use Rattle.bl_seq.specs.declared.state.Progress.{Progress}

@@ -6,8 +6,8 @@ use Rattle.std.proofs.lemmas.List.Elements.{All-head, All-tail}
 use Rattle.std.proofs.lemmas.List.{append-nil, append_assoc, at_drop_all, map-append}
 use Rattle.bl_base.specs.Runs.{MemoryState, memory_of}
 use Rattle.bl_base.specs.declared.run.Pages.{Pages}
-use Rattle.bl_cmd.specs.Steps.{states_from, values_from}
-use Rattle.bl_cmd.specs.declared.definitions.MemoryDef.{MemoryDef}
+use Rattle.bl_program.specs.Steps.{states_from, values_from}
+use Rattle.bl_program.specs.declared.definitions.MemoryDef.{MemoryDef}
 use Rattle.bl_seq.specs.FinalMemories.{IsWhole, pages_at}
 
 -- ---- results

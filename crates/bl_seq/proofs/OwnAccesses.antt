@@ -5,17 +5,17 @@ use Rattle.std.proofs.lemmas.Option.{same_Some}
 use Rattle.bl_base.proofs.Lists.{all_get, within_get}
 use Rattle.bl_ops.specs.Access.{width_of}
 use Rattle.bl_ops.specs.declared.op.Op.TheVariants.{Outside}
-use Rattle.bl_cmd.proofs.Layouts.{sum_more}
-use Rattle.bl_cmd.specs.Layout.{size_of, command_at, Holds}
-use Rattle.bl_cmd.specs.Programs.{IsProgram, IsCommand}
-use Rattle.bl_cmd.specs.Rules.{IsWellFormed, IsGuarded, IsTested, Reach, reach_of, variable}
-use Rattle.bl_cmd.specs.Steps.{Plain, value_of}
-use Rattle.bl_cmd.specs.declared.command.Command.{Command}
-use Rattle.bl_cmd.specs.declared.command.Command.TheVariants.{Set, Load, Store, Test, Trap}
-use Rattle.bl_cmd.specs.declared.command.Operand.{Operand}
-use Rattle.bl_cmd.specs.declared.command.Operand.TheVariants.{Const}
-use Rattle.bl_cmd.specs.declared.definitions.MemoryDef.{MemoryDef}
-use Rattle.bl_cmd.specs.declared.definitions.ProgramParts.{ProgramParts as Program}
+use Rattle.bl_program.proofs.Layouts.{sum_more}
+use Rattle.bl_program.specs.Layout.{size_of, command_at, Holds}
+use Rattle.bl_program.specs.Programs.{IsProgram, IsCommand}
+use Rattle.bl_program.specs.Rules.{IsWellFormed, IsGuarded, IsTested, Reach, reach_of, variable}
+use Rattle.bl_program.specs.Steps.{Plain, value_of}
+use Rattle.bl_program.specs.declared.command.Command.{Command}
+use Rattle.bl_program.specs.declared.command.Command.TheVariants.{Set, Load, Store, Test, Trap}
+use Rattle.bl_program.specs.declared.command.Operand.{Operand}
+use Rattle.bl_program.specs.declared.command.Operand.TheVariants.{Const}
+use Rattle.bl_program.specs.declared.definitions.MemoryDef.{MemoryDef}
+use Rattle.bl_program.specs.declared.definitions.ProgramParts.{ProgramParts as Program}
 use Rattle.bl_seq.specs.OwnMemory.{IsInside}
 use Rattle.bl_seq.proofs.OwnSizes.{sized}
 use Rattle.bl_seq.proofs.OwnSteps.{Reached, stands, Came, came, passed}

@@ -11,18 +11,18 @@ use Rattle.bl_base.specs.declared.trap.Trap.TheVariants as trap_kind
 use Rattle.bl_ops.specs.Numerics.{meaning}
 use Rattle.bl_ops.specs.declared.op.Op.{Op}
 use Rattle.bl_ops.specs.declared.op.Op.TheVariants.{I32Add, I32Sub, I32GtU, Move}
-use Rattle.bl_cmd.specs.Layout.{size_of, result, running, entry_of, command_at, Holds}
-use Rattle.bl_cmd.specs.Outcomes.{first_registers}
-use Rattle.bl_cmd.specs.Programs.{IsProgram}
-use Rattle.bl_cmd.specs.Rules.{IsWellFormed, IsMemory, IsLocal, IsPassed, IsSum, IsGrowth, variable}
-use Rattle.bl_cmd.specs.Steps.{Plain, depth, place, written, value_of, states, to, ret, perform}
-use Rattle.bl_cmd.specs.declared.command.Command.{Command}
-use Rattle.bl_cmd.specs.declared.command.Command.TheVariants.{Set, Load, Store, Test, Jump, Arg, Call, Out, Ret, Trap}
-use Rattle.bl_cmd.specs.declared.command.Operand.{Operand}
-use Rattle.bl_cmd.specs.declared.command.Operand.TheVariants.{Const}
-use Rattle.bl_cmd.specs.declared.definitions.GlobalDef.{GlobalDef}
-use Rattle.bl_cmd.specs.declared.definitions.MemoryDef.{MemoryDef}
-use Rattle.bl_cmd.specs.declared.definitions.ProgramParts.{ProgramParts as Program}
+use Rattle.bl_program.specs.Layout.{size_of, result, running, entry_of, command_at, Holds}
+use Rattle.bl_program.specs.Outcomes.{first_registers}
+use Rattle.bl_program.specs.Programs.{IsProgram}
+use Rattle.bl_program.specs.Rules.{IsWellFormed, IsMemory, IsLocal, IsPassed, IsSum, IsGrowth, variable}
+use Rattle.bl_program.specs.Steps.{Plain, depth, place, written, value_of, states, to, ret, perform}
+use Rattle.bl_program.specs.declared.command.Command.{Command}
+use Rattle.bl_program.specs.declared.command.Command.TheVariants.{Set, Load, Store, Test, Jump, Arg, Call, Out, Ret, Trap}
+use Rattle.bl_program.specs.declared.command.Operand.{Operand}
+use Rattle.bl_program.specs.declared.command.Operand.TheVariants.{Const}
+use Rattle.bl_program.specs.declared.definitions.GlobalDef.{GlobalDef}
+use Rattle.bl_program.specs.declared.definitions.MemoryDef.{MemoryDef}
+use Rattle.bl_program.specs.declared.definitions.ProgramParts.{ProgramParts as Program}
 use Rattle.bl_seq.specs.OwnMemory.{IsReached, HasSizes}
 use Rattle.bl_seq.proofs.OwnSteps.{Reached, opens, steps, reached_by, Stands, stands, trap_ends, Came, came, passed}
 use Rattle.bl_seq.proofs.OwnWrites.{other_written, deep_written, growth_then, size_value, size_apart, set_result, set_other, test_zero}

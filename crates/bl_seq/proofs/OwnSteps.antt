@@ -9,14 +9,14 @@ use Rattle.bl_base.proofs.Lists.{all_get, within_get}
 use Rattle.bl_base.proofs.RunLemmas.{IsNext}
 use Rattle.bl_base.specs.Runs.{Outcome, goes, ends, trapped, StepsTo, HasStep}
 use Rattle.bl_base.specs.declared.trap.Trap.TheVariants as trap_kind
-use Rattle.bl_cmd.proofs.Layouts.{next_entry, holds_within}
-use Rattle.bl_cmd.specs.Layout.{entry_of, command_at, Holds}
-use Rattle.bl_cmd.specs.Programs.{IsProgram}
-use Rattle.bl_cmd.specs.Rules.{IsWellFormed, IsFunction, IsPassed, IsGuarded, Leaves}
-use Rattle.bl_cmd.specs.Steps.{Plain, depth, value_of, states, to, ret, perform, plain_step}
-use Rattle.bl_cmd.specs.declared.command.Command.{Command}
-use Rattle.bl_cmd.specs.declared.command.Command.TheVariants.{Test, Jump, Call, Ret, Trap}
-use Rattle.bl_cmd.specs.declared.definitions.ProgramParts.{ProgramParts as Program}
+use Rattle.bl_program.proofs.Layouts.{next_entry, holds_within}
+use Rattle.bl_program.specs.Layout.{entry_of, command_at, Holds}
+use Rattle.bl_program.specs.Programs.{IsProgram}
+use Rattle.bl_program.specs.Rules.{IsWellFormed, IsFunction, IsPassed, IsGuarded, Leaves}
+use Rattle.bl_program.specs.Steps.{Plain, depth, value_of, states, to, ret, perform, plain_step}
+use Rattle.bl_program.specs.declared.command.Command.{Command}
+use Rattle.bl_program.specs.declared.command.Command.TheVariants.{Test, Jump, Call, Ret, Trap}
+use Rattle.bl_program.specs.declared.definitions.ProgramParts.{ProgramParts as Program}
 use Rattle.bl_seq.specs.OwnMemory.{HasSizes}
 
 -- a run comes from a function's entry to a state, step by step

@@ -6,14 +6,14 @@ use Rattle.bl_base.proofs.RunLemmas.{IsNext}
 use Rattle.bl_ops.specs.Numerics.{meaning}
 use Rattle.bl_ops.specs.declared.op.Op.{Op}
 use Rattle.bl_ops.specs.declared.op.Op.TheVariants.{I32Add, I32Sub, I32GtU, Outside}
-use Rattle.bl_cmd.specs.Layout.{statics, size_of}
-use Rattle.bl_cmd.specs.Rules.{IsLocal, variable}
-use Rattle.bl_cmd.specs.Steps.{Registers, Plain, depth, written, held, value_of, to}
-use Rattle.bl_cmd.specs.declared.command.Command.TheVariants.{Set, Test}
-use Rattle.bl_cmd.specs.declared.command.Mark.{Mark}
-use Rattle.bl_cmd.specs.declared.command.Operand.{Operand}
-use Rattle.bl_cmd.specs.declared.command.Operand.TheVariants.{Var, Const}
-use Rattle.bl_cmd.specs.declared.definitions.ProgramParts.{ProgramParts as Program}
+use Rattle.bl_program.specs.Layout.{statics, size_of}
+use Rattle.bl_program.specs.Rules.{IsLocal, variable}
+use Rattle.bl_program.specs.Steps.{Registers, Plain, depth, written, held, value_of, to}
+use Rattle.bl_program.specs.declared.command.Command.TheVariants.{Set, Test}
+use Rattle.bl_program.specs.declared.command.Mark.{Mark}
+use Rattle.bl_program.specs.declared.command.Operand.{Operand}
+use Rattle.bl_program.specs.declared.command.Operand.TheVariants.{Var, Const}
+use Rattle.bl_program.specs.declared.definitions.ProgramParts.{ProgramParts as Program}
 use Rattle.bl_seq.proofs.OwnSteps.{Came}
 
 -- ---- a register that is written, and the others

@@ -10,7 +10,7 @@ use Rattle.std.proofs.lemmas.Bool.{cases_lt, eqb-true, eqb-false, eq-eqb}
 use Rattle.std.proofs.lemmas.Bool.Decides.{eqb_tells}
 use Rattle.std.proofs.lemmas.Cmp.{ranked}
 use Rattle.std.proofs.lemmas.List.{get_or-set_same, get_or-set_other, get_or_append_left, get_or-append_right, get_or_default, get_or-replicate, get_or_past, length-replicate, set-get_or}
-use Rattle.bl_cmd.specs.Steps.{written}
+use Rattle.bl_program.specs.Steps.{written}
 use Rattle.bl_seq.specs.RegisterTrees.{AreSame, Deepens, IsSameTree, Puts, SetsBranch, SetsPages, SetsTree, Tree, Writes, bare, cell_of, filled, in_tree, number_at, page_in, page_of, put_page, stray_at}
 
 -- ---- lists with blanks behind their ends, and with another item

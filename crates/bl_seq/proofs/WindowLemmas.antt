@@ -5,7 +5,7 @@ use Rattle.std.proofs.lemmas.Bool.{cases_lt, eqb-true, eqb-false, eq-eqb}
 use Rattle.std.proofs.lemmas.Bool.Decides.{eqb_tells}
 use Rattle.std.proofs.lemmas.List.{get_or-set_same, get_or-set_other, get_or_append_left, get_or-append_right, get_or_past}
 use Rattle.std.proofs.lemmas.Option.{unwrap_or-slice_get}
-use Rattle.bl_cmd.specs.Steps.{written}
+use Rattle.bl_program.specs.Steps.{written}
 use Rattle.bl_seq.specs.RegisterTrees.{AreSame, File, Tree, Writes, behind, cell_of, number_at, page_of, register_at}
 use Rattle.bl_seq.specs.Windows.{Lacks, Sets, found, seen}
 use Rattle.bl_seq.specs.declared.registers.Window.{Window}

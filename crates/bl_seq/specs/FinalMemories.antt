@@ -4,9 +4,9 @@ use Rattle.std.specs.List.{All}
 use Rattle.bl_base.specs.Quantity.{limit_of}
 use Rattle.bl_base.specs.Runs.{MemoryState, Outcome, returned, trapped, Next, goes, ends, stuck}
 use Rattle.bl_base.specs.declared.quantity.Quantity.TheVariants as quantity
-use Rattle.bl_cmd.specs.Layout.{size_of}
-use Rattle.bl_cmd.specs.Steps.{Plain, Registers, states_from}
-use Rattle.bl_cmd.specs.declared.definitions.ProgramParts.{ProgramParts as Program}
+use Rattle.bl_program.specs.Layout.{size_of}
+use Rattle.bl_program.specs.Steps.{Plain, Registers, states_from}
+use Rattle.bl_program.specs.declared.definitions.ProgramParts.{ProgramParts as Program}
 
 -- the memories that registers and bytes tell
 abbrev pub memories_of : Program → Registers → List ℕ → List MemoryState

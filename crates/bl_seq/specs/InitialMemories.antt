@@ -3,7 +3,7 @@ use Rattle.std.specs.Prelude.{◌≡◌, ◌+◌, ◌*◌, ◌≤◌, List, leng
 use Rattle.std.specs.List.{AllZip}
 use Rattle.bl_base.specs.Runs.{MemoryState}
 use Rattle.bl_base.specs.declared.start.Patch.{Patch}
-use Rattle.bl_cmd.specs.declared.definitions.MemoryDef.{MemoryDef}
+use Rattle.bl_program.specs.declared.definitions.MemoryDef.{MemoryDef}
 
 -- a memory has the bytes of its first pages
 pub record IsSized (memory : MemoryDef) (state : MemoryState) : Type 0 where

@@ -1,9 +1,9 @@
 -- The machine as a state of the plain run.
 use Rattle.std.specs.Prelude.{◌≤◌, ℕ, List, Option, Some, None}
 use Rattle.bl_base.specs.Runs.{Outcome, returned, trapped, Next, goes, ends, stuck, StepsTo, EndsAfter}
-use Rattle.bl_cmd.specs.Layout.{results_of, result, running}
-use Rattle.bl_cmd.specs.Steps.{Registers, Plain, values_from, states, plain_step}
-use Rattle.bl_cmd.specs.declared.definitions.ProgramParts.{ProgramParts as Program}
+use Rattle.bl_program.specs.Layout.{results_of, result, running}
+use Rattle.bl_program.specs.Steps.{Registers, Plain, values_from, states, plain_step}
+use Rattle.bl_program.specs.declared.definitions.ProgramParts.{ProgramParts as Program}
 use Rattle.bl_seq.specs.RegisterTrees.{register_at}
 use Rattle.bl_seq.specs.declared.state.Machine.{Machine}
 use Rattle.bl_seq.specs.declared.state.Progress.{Progress}

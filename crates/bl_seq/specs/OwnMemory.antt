@@ -2,13 +2,13 @@
 use Rattle.std.specs.Prelude.{◌≡◌, ◌≤◌, ℕ, suc, ◌+◌, ◌*◌, ◌%◌, ◌^◌, Some, slice_get}
 use Rattle.bl_base.specs.Runs.{StepsTo}
 use Rattle.bl_base.specs.declared.start.Start.{Start}
-use Rattle.bl_cmd.specs.Layout.{size_of, base}
-use Rattle.bl_cmd.specs.Outcomes.{IsStart, opening}
-use Rattle.bl_cmd.specs.Programs.{IsProgram}
-use Rattle.bl_cmd.specs.Rules.{IsWellFormed, Reach}
-use Rattle.bl_cmd.specs.Steps.{Registers, Plain, value_of, plain_step}
-use Rattle.bl_cmd.specs.declared.definitions.MemoryDef.{MemoryDef}
-use Rattle.bl_cmd.specs.declared.definitions.ProgramParts.{ProgramParts as Program}
+use Rattle.bl_program.specs.Layout.{size_of, base}
+use Rattle.bl_program.specs.Outcomes.{IsStart, opening}
+use Rattle.bl_program.specs.Programs.{IsProgram}
+use Rattle.bl_program.specs.Rules.{IsWellFormed, Reach}
+use Rattle.bl_program.specs.Steps.{Registers, Plain, value_of, plain_step}
+use Rattle.bl_program.specs.declared.definitions.MemoryDef.{MemoryDef}
+use Rattle.bl_program.specs.declared.definitions.ProgramParts.{ProgramParts as Program}
 
 -- the program is well-formed, and the plain run of one of its functions from a start that fits it comes to the state
 pub record IsReached (program : Program) (s : Plain) : Type 0 where

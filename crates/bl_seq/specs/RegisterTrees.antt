@@ -2,7 +2,7 @@
 use Rattle.std.specs.Prelude.{◌≡◌, Bool, true, false, ℕ, suc, ◌/◌, ◌%◌, ◌<◌, ◌≤◌, ◌⊎◌, ◌&&◌, List, [], ◌∷◌, length, if◌then◌else◌, nat_eq, set, slice_index_or, unwrap_or}
 use Rattle.std.specs.Map.{lookup}
 use Rattle.std.specs.Ordering.{is_eq, nat_cmp}
-use Rattle.bl_cmd.specs.Steps.{written}
+use Rattle.bl_program.specs.Steps.{written}
 
 -- the page of a variable, which is 512 variables in a row, and its cell there
 abbrev pub page_of : ℕ → ℕ

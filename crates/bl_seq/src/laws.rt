@@ -1,8 +1,8 @@
 //! Laws of the plain runs of well-formed programs. Each function is its contract alone.
 ghost use Rattle.std.specs.Prelude.{◌≡◌, IfSome, Some};
 ghost use Rattle.bl_base.specs.Runs.{HasStep};
-ghost use Rattle.bl_cmd.specs.{Layout.command_at, Rules.reach_of, Steps.Plain, Steps.plain_step, declared.command.Command.Command};
-ghost use Rattle.bl_cmd.specs.declared.definitions.ProgramParts.{ProgramParts};
+ghost use Rattle.bl_program.specs.{Layout.command_at, Rules.reach_of, Steps.Plain, Steps.plain_step, declared.command.Command.Command};
+ghost use Rattle.bl_program.specs.declared.definitions.ProgramParts.{ProgramParts};
 ghost use Rattle.bl_seq.specs.OwnMemory.{IsReached, IsInside, HasSizes};
 
 /// Own memory: where a run comes to a Load or a Store, the bytes that it reads or writes lie in the pages that its memory

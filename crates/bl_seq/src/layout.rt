@@ -2,12 +2,12 @@
 ghost use Rattle.std.specs.Prelude.{◌≡◌, ◌≤◌, ◌+◌, ◌*◌, ◌^◌, ◌<◌, ◌∷◌, ◌++◌, IfOk, OnOk, length, replicate};
 ghost use Rattle.bl_base.specs.Quantity.{limit_of};
 ghost use Rattle.bl_base.specs.declared.quantity.Quantity.TheVariants as quantity;
-ghost use Rattle.bl_cmd.specs.Layout.{base, entry_of, first_of, params_of, result as variable_of_result, results_of, running, statics, sum_before};
-ghost use Rattle.bl_cmd.specs.{Rules.IsWellFormed, Programs.IsProgram, Steps.held};
+ghost use Rattle.bl_program.specs.Layout.{base, entry_of, first_of, params_of, result as variable_of_result, results_of, running, statics, sum_before};
+ghost use Rattle.bl_program.specs.{Rules.IsWellFormed, Programs.IsProgram, Steps.held};
 ghost use Rattle.bl_seq.specs.Layouts.{IsLayout, ends_from, frame_of, frames_from, owners_from};
 
 use bl_base::NoMemory;
-use bl_cmd::{FIRST_ENTRY, FunctionDef, MemoryDef, ProgramParts};
+use bl_program::{FIRST_ENTRY, FunctionDef, MemoryDef, ProgramParts};
 use std::alloc::Global;
 
 /// Where a function's commands and variables begin, and the numbers of its parameters and results.

@@ -2,7 +2,7 @@
 ghost use Rattle.std.specs.Prelude.{◌≡◌, ℕ, ◌^◌, ◌<◌, ◌-◌, ◌*◌, ◌++◌, IfOk, OnOk, length, map, replicate};
 ghost use Rattle.std.specs.List.{All};
 ghost use Rattle.bl_base.specs.{Bytes.patched, Runs.memory_of, Fits.PatchFits};
-ghost use Rattle.bl_cmd.specs.Outcomes.{IsStart, first_memories, first_memory, first_registers, opening, space_of};
+ghost use Rattle.bl_program.specs.Outcomes.{IsStart, first_memories, first_memory, first_registers, opening, space_of};
 ghost use Rattle.bl_seq.specs.{InitialMemories.LiesInside, RegisterTrees.filled, RegisterTrees.register_at, Layouts.IsLayout};
 ghost use Rattle.bl_seq.specs.Machines.{shown};
 
@@ -12,7 +12,7 @@ use crate::registers::Registers;
 use crate::state::Machine;
 use bl_base::{List, NoMemory, Pages, Patch, Start};
 use bl_bytes::{Bytes, Space};
-use bl_cmd::{MemoryDef, ProgramParts, WellFormed};
+use bl_program::{MemoryDef, ProgramParts, WellFormed};
 use std::alloc::Global;
 
 /// The memories before the first step: their first contents, with the patches of the start. Linear in the memories' pages and the

@@ -1,6 +1,6 @@
 //! Registers, which take room as they are written.
 ghost use Rattle.std.specs.Prelude.{◌≡◌, ◌+◌, ◌-◌, ◌*◌, ◌^◌, ◌<◌, ◌≤◌, ◌++◌, ◌/◌, ◌%◌, ◌↔◌, ℕ, [], ◌∷◌, IsTrue, OnErr, OnOk, IsFalse, if◌then◌else◌, length, slice_get, slice_index_or};
-ghost use Rattle.bl_cmd.specs.Steps.{written};
+ghost use Rattle.bl_program.specs.Steps.{written};
 ghost use Rattle.bl_seq.specs.RegisterTrees.{AreSame, Deepens, IsSameBranch, IsSameTree, Puts, SetsBranch, SetsLeaf, SetsPages, SetsTree, Settles, SettlesTree, SwapsBranch, Widens, Writes, bare, filled, in_tree, number_at, page_in, register_at};
 ghost use Rattle.bl_seq.specs.Windows.{AreEqual, IsAt, MaySet, found, seen};
 

@@ -7,7 +7,7 @@ use Rattle.std.proofs.lemmas.List.Elements.{All-push, All-contains, All-cons, Al
 use Rattle.std.proofs.lemmas.List.{append_assoc, append-nil}
 use Rattle.bl_base.proofs.BoolLemmas.{never_both}
 use Rattle.bl_base.proofs.Members.{in_any}
-use Rattle.bl_cmd.specs.declared.definitions.ProgramParts.{ProgramParts as Program}
+use Rattle.bl_program.specs.declared.definitions.ProgramParts.{ProgramParts as Program}
 use Rattle.bl_graph.specs.Chains.{Carries, IsChain}
 use Rattle.bl_graph.proofs.ChainLemmas.{Protected, chain_met as typed_met}
 use Rattle.bl_transient.specs.Transient.{Passes, Trans, loaded, moved, given}

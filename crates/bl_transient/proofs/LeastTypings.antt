@@ -4,8 +4,8 @@ use Rattle.std.specs.Prelude.{IsTrue, ◌↔◌}
 use Rattle.std.proofs.lemmas.Bool.{cases_eq, not_from_false, false_from_ne_true, false≢true}
 use Rattle.bl_base.proofs.BoolLemmas.{never_both}
 use Rattle.bl_base.proofs.Decisions.{Decided, decided_as, decided_below, decided_either, decided_three, decided_true, holds, holds_if, if_holds}
-use Rattle.bl_cmd.specs.Sites.{IsLoad, Loads, SinkReads, Writes}
-use Rattle.bl_cmd.specs.declared.definitions.ProgramParts.{ProgramParts as Program}
+use Rattle.bl_program.specs.Sites.{IsLoad, Loads, SinkReads, Writes}
+use Rattle.bl_program.specs.declared.definitions.ProgramParts.{ProgramParts as Program}
 use Rattle.bl_graph.specs.Ranges.{commands}
 use Rattle.bl_graph.proofs.Closures.{Reached, decided_reached, reached_least, reached_on}
 use Rattle.bl_graph.proofs.CommandLists.{decided_load, decided_write, stands_below}

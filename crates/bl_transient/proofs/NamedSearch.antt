@@ -3,8 +3,8 @@ use Rattle.std.proofs.Common.{◌≡◌, ℕ, ◌<◌, Bool, List, length, not, 
 use Rattle.std.specs.Prelude.{IsTrue, ◌↔◌}
 use Rattle.std.specs.List.{Contains, All}
 use Rattle.std.proofs.lemmas.Option.{slice_get_within, same_Some}
-use Rattle.bl_cmd.specs.Sites.{SinkReads, Writes}
-use Rattle.bl_cmd.specs.declared.definitions.ProgramParts.{ProgramParts as Program}
+use Rattle.bl_program.specs.Sites.{SinkReads, Writes}
+use Rattle.bl_program.specs.declared.definitions.ProgramParts.{ProgramParts as Program}
 use Rattle.bl_graph.specs.Graphs.{use_of, IsGraph}
 use Rattle.bl_graph.specs.Ranges.{commands, AreInRange}
 use Rattle.bl_graph.specs.declared.facts.Graph.{Graph}

@@ -5,7 +5,7 @@ use Rattle.std.specs.List.{Contains, All}
 use Rattle.std.proofs.lemmas.Bool.{false≢true}
 use Rattle.bl_base.specs.declared.names.Flow.{Flow}
 use Rattle.bl_base.proofs.Members.{none_in}
-use Rattle.bl_cmd.specs.declared.definitions.ProgramParts.{ProgramParts as Program}
+use Rattle.bl_program.specs.declared.definitions.ProgramParts.{ProgramParts as Program}
 use Rattle.bl_graph.specs.Graphs.{use_of, IsGraph}
 use Rattle.bl_graph.specs.Ranges.{commands, variables, AreInRange}
 use Rattle.bl_graph.specs.declared.facts.Graph.{Graph}

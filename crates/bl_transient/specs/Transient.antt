@@ -1,8 +1,8 @@
 -- The transient rules: which variables are transient, and which sets of protected sites pass; also where it is asked of
 -- variables to be transient or stable.
 use Rattle.std.specs.Prelude.{◌⊎◌, ℕ, Bool, false, IsTrue, not}
-use Rattle.bl_cmd.specs.Sites.{IsLoad, Writes, Reads, SinkReads}
-use Rattle.bl_cmd.specs.declared.definitions.ProgramParts.{ProgramParts as Program}
+use Rattle.bl_program.specs.Sites.{IsLoad, Writes, Reads, SinkReads}
+use Rattle.bl_program.specs.declared.definitions.ProgramParts.{ProgramParts as Program}
 
 -- what is asked of variables beside the rules: that some be transient, and that some be stable
 pub record Asked : Type 0 where

@@ -3,8 +3,8 @@ ghost use Rattle.std.specs.Prelude.{◌≡◌, ◌<◌, ◌↔◌, ℕ, [], All,
 ghost use Rattle.bl_graph.specs.{Arcs.is_in, Graphs.IsGraph, Names.AreNames, Names.place_of, Ranges.variables};
 
 use bl_base::{List, NoMemory};
-use bl_cmd::WellFormed;
 use bl_graph::{Graph, Names, names_of};
+use bl_program::WellFormed;
 use std::alloc::Global;
 
 /// Variables of which something is asked beside the rules.

@@ -9,8 +9,8 @@ use crate::asked::{AskedOf, marked, names_under, numbers_of};
 use crate::moves::written_named;
 use crate::transient::{first_sink, named_transients};
 use bl_base::{NoMemory, Pos, SiteSet, Var};
-use bl_cmd::WellFormed;
 use bl_graph::{Graph, Names, Read, Use, noted_at, ranges};
+use bl_program::WellFormed;
 use std::alloc::Global;
 
 /// None where the set passes under what is asked. Else the least position of a sink that reads a transient variable, or of a site

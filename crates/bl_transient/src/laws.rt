@@ -1,6 +1,6 @@
 //! Laws of transient variables and passing sets. Each function is its contract alone.
 ghost use Rattle.std.specs.Prelude.{◌↔◌, ◌≤◌, ℕ, Any, Bool, IsTrue, List as Listed};
-ghost use Rattle.bl_cmd.specs.{Sites.SinkReads, Sites.weight_of, declared.definitions.ProgramParts.ProgramParts};
+ghost use Rattle.bl_program.specs.{Sites.SinkReads, Sites.weight_of, declared.definitions.ProgramParts.ProgramParts};
 ghost use Rattle.bl_graph.specs.{Certificates.CertifiesSet, Chains.IsChain, Ranges.AreInRange, Ranges.AreSites};
 ghost use Rattle.bl_graph.specs.declared.certificate.Certificate.{Certificate};
 ghost use Rattle.bl_transient.specs.Transient.{Assigns, Passes, Trans};

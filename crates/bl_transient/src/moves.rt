@@ -7,8 +7,8 @@ ghost use Rattle.bl_transient.specs.Reachability.{Spread, listed, moved_to, move
 
 use crate::search::reached;
 use bl_base::{NoMemory, Pos, SiteSet, Var};
-use bl_cmd::WellFormed;
 use bl_graph::{Arc, Graph, Names, Read, noted_at, ranges, rows_of, written_free};
+use bl_program::WellFormed;
 use std::alloc::Global;
 
 /// For each position the number of the variable that the site there writes, where it isn't protected.

@@ -1,10 +1,10 @@
 //! The protects that stand in a program.
 ghost use Rattle.std.specs.Prelude.{◌≡◌, ℕ, IfOk, length};
 ghost use Rattle.std.specs.FinSet as fin;
-ghost use Rattle.bl_cmd.specs.Sites.{is_protected};
+ghost use Rattle.bl_program.specs.Sites.{is_protected};
 
 use bl_base::{NoMemory, Pos, SiteSet};
-use bl_cmd::{ProgramParts, mark_at};
+use bl_program::{ProgramParts, mark_at};
 use std::alloc::Global;
 
 /// Whether a protect stands at a position. Takes no memory.

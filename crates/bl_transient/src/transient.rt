@@ -9,8 +9,8 @@ ghost use Rattle.bl_transient.specs.Verdicts.{IsFirstLeak, Judges, asked_of};
 use crate::asked::{AskedOf, numbers_of};
 use crate::moves::{spread, written_named};
 use bl_base::{Flow, List, NoMemory, Pos, SiteSet};
-use bl_cmd::WellFormed;
 use bl_graph::{Graph, Names, SinkUse, graph, names_of, ranges, variables, written_free};
+use bl_program::WellFormed;
 use std::alloc::Global;
 
 /// Whether a set of protected sites keeps transient values from every sink.

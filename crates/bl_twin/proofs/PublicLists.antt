@@ -11,11 +11,11 @@ use Rattle.bl_base.specs.declared.names.Label.{Label}
 use Rattle.bl_base.specs.declared.names.Label.TheVariants.{Public}
 use Rattle.bl_base.specs.declared.start.Patch.{Patch}
 use Rattle.bl_base.specs.declared.start.Start.{Start}
-use Rattle.bl_cmd.specs.Outcomes.{Agree, IsStart, first_memories, first_memory}
-use Rattle.bl_cmd.specs.declared.definitions.FunctionDef.{FunctionDef}
-use Rattle.bl_cmd.specs.declared.definitions.MemoryDef.{MemoryDef}
-use Rattle.bl_cmd.specs.declared.definitions.ParamDef.{ParamDef}
-use Rattle.bl_cmd.specs.declared.definitions.ProgramParts.{ProgramParts as Program}
+use Rattle.bl_program.specs.Outcomes.{Agree, IsStart, first_memories, first_memory}
+use Rattle.bl_program.specs.declared.definitions.FunctionDef.{FunctionDef}
+use Rattle.bl_program.specs.declared.definitions.MemoryDef.{MemoryDef}
+use Rattle.bl_program.specs.declared.definitions.ParamDef.{ParamDef}
+use Rattle.bl_program.specs.declared.definitions.ProgramParts.{ProgramParts as Program}
 use Rattle.bl_twin.specs.PublicAgreement.{AgreeWherePublic}
 
 -- equal items at the places below a number of those things that aren't declared secret

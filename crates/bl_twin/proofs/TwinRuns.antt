@@ -2,8 +2,8 @@
 use Rattle.std.proofs.Common.{◌≡◌, ◌↔◌, ◌∙◌, ℕ, Bool, IsTrue, List, Result, Ok, Err}
 use Rattle.std.specs.Prelude.{IfOk}
 use Rattle.bl_base.specs.declared.start.Start.{Start}
-use Rattle.bl_cmd.specs.declared.definitions.ProgramParts.{ProgramParts as Program}
-use Rattle.bl_cmd.specs.Outcomes.{Agree}
+use Rattle.bl_program.specs.declared.definitions.ProgramParts.{ProgramParts as Program}
+use Rattle.bl_program.specs.Outcomes.{Agree}
 use Rattle.bl_rob.specs.Machines.{opening}
 use Rattle.bl_rob.specs.Observations.{Observed, Rules, observed_by}
 use Rattle.bl_rob.specs.declared.directive.Directive.{Directive}

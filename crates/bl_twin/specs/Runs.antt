@@ -1,8 +1,8 @@
 -- Two runs of a function on the same directives.
 use Rattle.std.specs.Prelude.{◌≡◌, ◌↔◌, ℕ, Bool, IsTrue, List}
 use Rattle.bl_base.specs.declared.start.Start.{Start}
-use Rattle.bl_cmd.specs.Outcomes.{Agree}
-use Rattle.bl_cmd.specs.declared.definitions.ProgramParts.{ProgramParts as Program}
+use Rattle.bl_program.specs.Outcomes.{Agree}
+use Rattle.bl_program.specs.declared.definitions.ProgramParts.{ProgramParts as Program}
 use Rattle.bl_rob.specs.Machines.{directive_step, opening}
 use Rattle.bl_rob.specs.Observations.{Rules, observed_by}
 use Rattle.bl_rob.specs.declared.directive.Directive.{Directive}

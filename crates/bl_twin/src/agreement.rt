@@ -1,11 +1,11 @@
 //! Whether two starts agree in public.
 ghost use Rattle.std.specs.Prelude.{◌≡◌, ◌↔◌, IfOk, IsTrue, length, map};
 ghost use Rattle.bl_base.specs.{Runs.memory_of, declared.names.Label.TheVariants.Public};
-ghost use Rattle.bl_cmd.specs.Outcomes.{Agree, IsStart};
+ghost use Rattle.bl_program.specs.Outcomes.{Agree, IsStart};
 ghost use Rattle.bl_twin.specs.PublicAgreement.{AgreeWherePublic};
 
 use bl_base::{Label, NoMemory, Pages, Start};
-use bl_cmd::{MemoryDef, ParamDef, WellFormed};
+use bl_program::{MemoryDef, ParamDef, WellFormed};
 use bl_seq::first_memories;
 use std::alloc::Global;
 

@@ -1,7 +1,7 @@
 //! Laws of comparisons. Each function is its contract alone.
 ghost use Rattle.std.specs.Prelude.{◌≡◌, ◌↔◌, ◌≤◌, ℕ, List as Listed, length};
 ghost use Rattle.bl_base.specs.declared.start.Start.{Start};
-ghost use Rattle.bl_cmd.specs.{Outcomes.Agree, declared.definitions.ProgramParts.ProgramParts};
+ghost use Rattle.bl_program.specs.{Outcomes.Agree, declared.definitions.ProgramParts.ProgramParts};
 ghost use Rattle.bl_rob.specs.{Observations.HasEqualObservations, Observations.observed, declared.directive.Directive.Directive};
 ghost use Rattle.bl_rob.specs.declared.directive.Observation.{Observation};
 ghost use Rattle.bl_twin.specs.TwinComparisons.{Counts, IsLongestCommonPrefix, Tells, common, comparison};

@@ -1,6 +1,6 @@
 //! Two runs of a function on the same directives, each from its own start.
 ghost use Rattle.std.specs.Prelude.{◌≡◌, ◌≤◌, IfOk};
-ghost use Rattle.bl_cmd.specs.Outcomes.{IsStart};
+ghost use Rattle.bl_program.specs.Outcomes.{IsStart};
 ghost use Rattle.bl_rob.specs.{CallResults.seen_in, Machines.opening, Observations.observed_by};
 ghost use Rattle.bl_twin.specs.Runs.{IsSideBySide, IsSideBySideBy};
 
@@ -8,7 +8,7 @@ use crate::agreement::agree;
 use crate::sight::Sight;
 use crate::text::{Compared, compare};
 use bl_base::{NoMemory, Start};
-use bl_cmd::WellFormed;
+use bl_program::WellFormed;
 use bl_rob::{Directive, Loads, Observation, Observed, Plain, Rob};
 use std::alloc::Global;
 

@@ -21,10 +21,10 @@ use Rattle.bl_wasm.specs.declared.linked.Memory.{Memory}
 use Rattle.bl_wasm.specs.declared.linked.Signature.{Signature}
 use Rattle.bl_wasm.specs.declared.linked.Tree.{Tree}
 use Rattle.bl_wasm.specs.declared.types.FuncType.{FuncType}
-use Rattle.bl_cmd.specs.Layout.{sum_before}
-use Rattle.bl_cmd.specs.declared.definitions.MemoryDef.{MemoryDef}
-use Rattle.bl_cmd.specs.declared.definitions.ExportDef.{ExportDef}
-use Rattle.bl_cmd.proofs.AppendLemmas.{get_left, get_right}
+use Rattle.bl_program.specs.Layout.{sum_before}
+use Rattle.bl_program.specs.declared.definitions.MemoryDef.{MemoryDef}
+use Rattle.bl_program.specs.declared.definitions.ExportDef.{ExportDef}
+use Rattle.bl_program.proofs.AppendLemmas.{get_left, get_right}
 use Rattle.bl_lower.specs.Trees.{export_def, low_tree, memory_def}
 use Rattle.bl_iface.specs.JoinedProgram.{HasSameTypes, IsNew, is_named, kept}
 use Rattle.bl_iface.specs.declared.iface.Iface.{Iface}

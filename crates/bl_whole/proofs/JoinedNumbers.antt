@@ -5,10 +5,10 @@ use Rattle.std.specs.List.{All}
 use Rattle.std.proofs.lemmas.List.{length-map}
 use Rattle.bl_wasm.specs.Linked.{IsLinked}
 use Rattle.bl_wasm.specs.declared.linked.Tree.{Tree}
-use Rattle.bl_cmd.specs.Layout.{entry_of, first_of, results_of, result as result_in, statics as statics_of}
-use Rattle.bl_cmd.specs.Rules.{IsLocal, IsOwn, IsResult}
-use Rattle.bl_cmd.specs.declared.definitions.ProgramParts.{ProgramParts as Program}
-use Rattle.bl_cmd.proofs.AppendLemmas.{get_left, get_right}
+use Rattle.bl_program.specs.Layout.{entry_of, first_of, results_of, result as result_in, statics as statics_of}
+use Rattle.bl_program.specs.Rules.{IsLocal, IsOwn, IsResult}
+use Rattle.bl_program.specs.declared.definitions.ProgramParts.{ProgramParts as Program}
+use Rattle.bl_program.proofs.AppendLemmas.{get_left, get_right}
 use Rattle.bl_emit.specs.Shapes.{result}
 use Rattle.bl_emit.specs.Numbers.{counts_of, function_size, function_variables, shape}
 use Rattle.bl_lower.specs.Trees.{function_def, global_def, low_tree, memory_def}

@@ -11,9 +11,9 @@ use Rattle.bl_wasm.specs.Linked.{IsFunction, IsLinked, type_of}
 use Rattle.bl_wasm.specs.declared.linked.Function.{Function}
 use Rattle.bl_wasm.specs.declared.linked.Signature.{Signature}
 use Rattle.bl_wasm.specs.declared.linked.Tree.{Tree}
-use Rattle.bl_cmd.specs.declared.definitions.FunctionDef.{FunctionDef}
-use Rattle.bl_cmd.specs.declared.definitions.ProgramParts.{ProgramParts as Program}
-use Rattle.bl_cmd.proofs.AppendLemmas.{get_left, get_right}
+use Rattle.bl_program.specs.declared.definitions.FunctionDef.{FunctionDef}
+use Rattle.bl_program.specs.declared.definitions.ProgramParts.{ProgramParts as Program}
+use Rattle.bl_program.proofs.AppendLemmas.{get_left, get_right}
 use Rattle.bl_emit.specs.Numbers.{function_size, function_variables, total}
 use Rattle.bl_lower.specs.Trees.{export_def, low_tree}
 use Rattle.bl_lower.proofs.DefinedFunctions.{has_type, is_defined}

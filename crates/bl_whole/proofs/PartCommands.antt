@@ -11,9 +11,9 @@ use Rattle.bl_wasm.specs.declared.instruction.Instr.{Instr}
 use Rattle.bl_wasm.specs.declared.instruction.Instr.TheVariants.{Block, Loop, If, Call, CallIndirect, LocalGet, LocalSet, LocalTee, GlobalGet, GlobalSet, Load, Store, MemorySize, MemoryGrow}
 use Rattle.bl_wasm.specs.declared.linked.Function.{Function}
 use Rattle.bl_wasm.specs.declared.linked.Tree.{Tree}
-use Rattle.bl_cmd.specs.declared.command.Command.{Command}
-use Rattle.bl_cmd.specs.declared.command.Operand.{Operand}
-use Rattle.bl_cmd.specs.declared.command.Operand.TheVariants.{Const}
+use Rattle.bl_program.specs.declared.command.Command.{Command}
+use Rattle.bl_program.specs.declared.command.Operand.{Operand}
+use Rattle.bl_program.specs.declared.command.Operand.TheVariants.{Const}
 use Rattle.bl_access.specs.Templates.{jump_to, shift}
 use Rattle.bl_access.proofs.Moving.{Ups, up, up_shift, up_sum}
 use Rattle.bl_emit.specs.Shapes.{Counts, Shape, Slot, armed, bottom, local, mistyped, result, uninitialized}

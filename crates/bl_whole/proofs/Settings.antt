@@ -3,7 +3,7 @@ use Rattle.std.proofs.Common.{◌≡◌, ℕ, ◌+◌, ◌<◌, ◌≤◌, List,
 use Rattle.bl_wasm.specs.declared.instruction.Instr.{Instr}
 use Rattle.bl_wasm.specs.declared.instruction.Instr.TheVariants.{Block, Loop, If, Call, CallIndirect, LocalGet, LocalSet, LocalTee, GlobalGet, GlobalSet, Load, Store, MemorySize, MemoryGrow}
 use Rattle.bl_wasm.specs.declared.types.BlockType.{BlockType}
-use Rattle.bl_cmd.specs.declared.command.Operand.{Operand}
+use Rattle.bl_program.specs.declared.command.Operand.{Operand}
 use Rattle.bl_emit.specs.Shapes.{Counts, Shape, Slot, armed, bottom, local, mistyped, result, uninitialized}
 use Rattle.bl_emit.specs.Constructs.{Kind, Point, Target, again, first_to, part, point, start_of, taken, whole}
 use Rattle.bl_emit.specs.LoweredBodies.{Body, Reached, block, choice, done, leave, loop, off, on, step}

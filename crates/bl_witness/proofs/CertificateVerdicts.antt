@@ -4,8 +4,8 @@ use Rattle.std.specs.List.{slice_index_or}
 use Rattle.std.proofs.lemmas.Bool.{cases_lt}
 use Rattle.std.proofs.lemmas.Option.{slice_get_within, get_or_from_slice_get}
 use Rattle.std.proofs.lemmas.List.{get_or-take, length-take}
-use Rattle.bl_cmd.specs.Sites.{is_protected}
-use Rattle.bl_cmd.specs.declared.definitions.ProgramParts.{ProgramParts as Program}
+use Rattle.bl_program.specs.Sites.{is_protected}
+use Rattle.bl_program.specs.declared.definitions.ProgramParts.{ProgramParts as Program}
 use Rattle.bl_graph.specs.Certificates.{Certifies, IsFlowPath}
 use Rattle.bl_graph.specs.declared.certificate.FlowPath.{FlowPath}
 use Rattle.bl_graph.specs.declared.certificate.Certificate.{Certificate}

@@ -3,8 +3,8 @@ use Rattle.std.proofs.Common.{◌≡◌, ℕ, ◌+◌, ◌<◌, ◌≤◌, List,
 use Rattle.std.specs.Prelude.{◌↔◌}
 use Rattle.std.proofs.lemmas.List.{drop_all, drop_more}
 use Rattle.bl_base.specs.declared.number.Pos.{Pos}
-use Rattle.bl_cmd.specs.Sites.{Writes}
-use Rattle.bl_cmd.specs.declared.definitions.ProgramParts.{ProgramParts as Program}
+use Rattle.bl_program.specs.Sites.{Writes}
+use Rattle.bl_program.specs.declared.definitions.ProgramParts.{ProgramParts as Program}
 use Rattle.bl_graph.specs.Chains.{Carries}
 use Rattle.bl_graph.specs.Graphs.{IsGraph}
 use Rattle.bl_graph.specs.declared.facts.Graph.{Graph}

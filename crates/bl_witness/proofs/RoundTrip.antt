@@ -17,8 +17,8 @@ use Rattle.serde_json.specs.View.{items_of}
 use Rattle.serde_json.specs.Written.{items_outline, outline}
 use Rattle.bl_base.proofs.Sums.{sum_le}
 use Rattle.bl_base.specs.declared.number.Pos.{Pos}
-use Rattle.bl_cmd.specs.Sites.{is_protected, site_weight}
-use Rattle.bl_cmd.specs.declared.definitions.ProgramParts.{ProgramParts as Program}
+use Rattle.bl_program.specs.Sites.{is_protected, site_weight}
+use Rattle.bl_program.specs.declared.definitions.ProgramParts.{ProgramParts as Program}
 use Rattle.bl_graph.specs.Certificates.{Certifies, IsFlowPath, flow_of, sites_of}
 use Rattle.bl_graph.specs.Chains.{Carries, IsChain}
 use Rattle.bl_graph.specs.Ranges.{AreInRange, commands}

@@ -5,7 +5,7 @@ use Rattle.std.specs.List.{AllPairs, Contains}
 use Rattle.std.proofs.lemmas.Bool.{cases_lt}
 use Rattle.std.proofs.lemmas.Option.{none-some, slice_get-get_or, slice_get_within, get_or_from_slice_get, same_Some}
 use Rattle.bl_base.proofs.Lists.{within_get}
-use Rattle.bl_cmd.proofs.Totals.{rises_get}
+use Rattle.bl_program.proofs.Totals.{rises_get}
 use Rattle.bl_graph.specs.Graphs.{Precedes, use_of}
 use Rattle.bl_graph.specs.declared.facts.Use.{Use}
 use Rattle.bl_witness.specs.LookupAnswers.{IsPlaceOf}
@@ -93,9 +93,6 @@ module _ (uses : List Use) (position place : ℕ) (rise : AllPairs Precedes uses
       let le = low_within x at.0 at.1 in
       let found = within_get uses place (omega arith) in
       none-some found.0 (sym none ∙ found.1)
-
-  pub written_here : (found : Use) → slice_get uses place ≡ Some found → found.at.0 ≡ position → Contains uses (use_of position found.var.0)
-  written_here found there same = contains_at uses place (use_of position found.var.0) (there ∙ ap (λ p. Some (use_of p found.var.0)) same)
 
   pub written_other : (found : Use) → slice_get uses place ≡ Some found → (found.at.0 ≡ position → ⊥) → (x : ℕ) → Contains uses (use_of position x) → ⊥
   written_other found there other x h =

@@ -2,8 +2,8 @@
 use Rattle.std.proofs.Common.{cond, ◌≡◌, ◌∙◌, ℕ, ◌-◌, ◌^◌, ◌<◌, ◌≤◌, Bool, true, false, List, length, Some, None, unwrap_or, sym, ap, subst, refl, arith, min, slice_index}
 use Rattle.std.specs.Prelude.{IsSome}
 use Rattle.bl_base.proofs.Sums.{sum_le, sum_term}
-use Rattle.bl_cmd.specs.Sites.{is_protected, site_weight, weight_of}
-use Rattle.bl_cmd.specs.declared.definitions.ProgramParts.{ProgramParts as Program}
+use Rattle.bl_program.specs.Sites.{is_protected, site_weight, weight_of}
+use Rattle.bl_program.specs.declared.definitions.ProgramParts.{ProgramParts as Program}
 use Rattle.bl_graph.specs.Certificates.{Certifies, flow_of, flow_through}
 use Rattle.bl_graph.specs.Ranges.{AreInRange, commands}
 use Rattle.bl_graph.specs.declared.certificate.Certificate.{Certificate}

@@ -2,8 +2,8 @@
 use Rattle.std.specs.Prelude.{◌≡◌, ◌<◌, ◌≤◌, ℕ, List, [], ◌∷◌, length, Option, Some, None, take, slice_get, slice_index}
 use Rattle.std.specs.List.{AllPairs, Contains}
 use Rattle.bl_base.specs.declared.number.Var.{Var}
-use Rattle.bl_cmd.specs.Sites.{is_protected, site_weight}
-use Rattle.bl_cmd.specs.declared.definitions.ProgramParts.{ProgramParts as Program}
+use Rattle.bl_program.specs.Sites.{is_protected, site_weight}
+use Rattle.bl_program.specs.declared.definitions.ProgramParts.{ProgramParts as Program}
 use Rattle.bl_graph.specs.Certificates.{IsFlowPath}
 use Rattle.bl_graph.specs.Graphs.{Precedes, use_of}
 use Rattle.bl_graph.specs.declared.certificate.FlowPath.{FlowPath}

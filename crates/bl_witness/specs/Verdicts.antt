@@ -1,8 +1,8 @@
 -- The verdict on a certificate: it keeps its rules, or the first rule that is broken.
 use Rattle.std.specs.Prelude.{◌≡◌, ◌<◌, ◌≤◌, ℕ, Bool, List, Some, take, slice_get, count_by, ⊤}
 use Rattle.std.specs.List.{All}
-use Rattle.bl_cmd.specs.Sites.{is_protected, site_weight, weight_of}
-use Rattle.bl_cmd.specs.declared.definitions.ProgramParts.{ProgramParts as Program}
+use Rattle.bl_program.specs.Sites.{is_protected, site_weight, weight_of}
+use Rattle.bl_program.specs.declared.definitions.ProgramParts.{ProgramParts as Program}
 use Rattle.bl_graph.specs.Certificates.{Certifies, IsFlowPath, flow_of, flow_through, sites_of}
 use Rattle.bl_graph.specs.Chains.{IsChain}
 use Rattle.bl_graph.specs.Ranges.{AreSites}

@@ -1,13 +1,13 @@
 //! Rule 1 of certificates: each path is a chain of sites from a load to a sink.
 ghost use Rattle.std.specs.Prelude.{◌≡◌, ◌↔◌, ◌≤◌, ℕ, AllPairs, Contains, IsSomeAnd, IsTrue, length, map, slice_get};
-ghost use Rattle.bl_cmd.specs.Sites.{Loads};
+ghost use Rattle.bl_program.specs.Sites.{Loads};
 ghost use Rattle.bl_graph.specs.Chains.{IsChain};
 ghost use Rattle.bl_graph.specs.Graphs.{IsGraph, Precedes, use_of};
 ghost use Rattle.bl_witness.specs.LookupAnswers.{IsLinked, IsOrdered, IsPlaceOf, IsWritten, LeadsToSink};
 
 use bl_base::{List, Pos, Var};
-use bl_cmd::{Command, ProgramParts};
 use bl_graph::{Graph, Use};
+use bl_program::{Command, ProgramParts};
 
 /// Whether the sites begin at a load, each next one reads what the former wrote, and a sink reads what the last wrote. A
 /// binary search in the graph for each site.

@@ -1,6 +1,6 @@
 //! Laws of certificates. Each function is its contract alone.
 ghost use Rattle.std.specs.Prelude.{◌≡◌, ℕ, Ok};
-ghost use Rattle.bl_cmd.specs.declared.definitions.ProgramParts.{ProgramParts};
+ghost use Rattle.bl_program.specs.declared.definitions.ProgramParts.{ProgramParts};
 ghost use Rattle.bl_graph.specs.{Certificates.Certifies, declared.certificate.Certificate.Certificate, Ranges.AreInRange};
 ghost use Rattle.bl_witness.specs.{Shapes.ReadsCertificate, Texts.certificate_text, Values.IsInRange, Verdicts.Breaks};
 

@@ -1,10 +1,10 @@
 //! Rule 4 of certificates: no more flows through a site than its weight.
 ghost use Rattle.std.specs.Prelude.{◌≡◌, ◌↔◌, ◌<◌, ◌^◌, ℕ, IsTrue, Some, length};
-ghost use Rattle.bl_cmd.specs.Sites.{site_weight};
+ghost use Rattle.bl_program.specs.Sites.{site_weight};
 ghost use Rattle.bl_witness.specs.LookupAnswers.{JudgesLoads};
 
 use bl_base::Pos;
-use bl_cmd::{WellFormed, mark_at, site_weight};
+use bl_program::{WellFormed, mark_at, site_weight};
 
 /// The first site with more flow than its weight.
 pub(crate) fn overloaded(program: &WellFormed, loads: &[u64]) -> Option<u64>

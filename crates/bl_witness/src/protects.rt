@@ -1,9 +1,9 @@
 //! The protects of a program.
 ghost use Rattle.std.specs.Prelude.{◌≡◌, ◌<◌, ◌^◌, if◌then◌else◌, min, unwrap_or};
-ghost use Rattle.bl_cmd.specs.Sites.{is_protected, site_weight, weight_of};
+ghost use Rattle.bl_program.specs.Sites.{is_protected, site_weight, weight_of};
 
 use bl_base::Pos;
-use bl_cmd::{WellFormed, site_weight};
+use bl_program::{WellFormed, site_weight};
 use bl_transient::is_protected;
 
 /// The sum of the weights of the program's protected sites.

@@ -1,6 +1,6 @@
 //! The check of certificates.
 ghost use Rattle.std.specs.Prelude.{◌≡◌, IfOk, count_by};
-ghost use Rattle.bl_cmd.specs.Sites.{is_protected};
+ghost use Rattle.bl_program.specs.Sites.{is_protected};
 ghost use Rattle.bl_graph.specs.Graphs.{IsGraph};
 ghost use Rattle.bl_witness.specs.{LookupAnswers.JudgesPath, LookupAnswers.JudgesPaths, Verdicts.Checks, Verdicts.Means};
 
@@ -8,8 +8,8 @@ use crate::chains::is_chain;
 use crate::loads::overloaded;
 use crate::protects::protect_weight;
 use bl_base::{NoMemory, Pos};
-use bl_cmd::{ProgramParts, WellFormed};
 use bl_graph::{Certificate, FlowPath, Graph, flow_sum, flows_through, graph, ranges};
+use bl_program::{ProgramParts, WellFormed};
 use bl_transient::is_protected;
 use std::alloc::Global;
 

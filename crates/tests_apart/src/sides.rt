@@ -3,11 +3,11 @@
 ghost use Rattle.bl_iface.specs.InterfaceFunctions.{Matches};
 
 use bl_base::{NoMemory, Pos, Role};
-use bl_cmd::WellFormed;
 use bl_iface::{
     Iface, IfaceError, UnderError, UnderVerdict, least_under, passes_under, read_iface, unmatched,
 };
 use bl_image::{ImageError, decode_image};
+use bl_program::WellFormed;
 use std::alloc::Global;
 use std::test::Fail;
 

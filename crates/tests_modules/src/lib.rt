@@ -1,4 +1,4 @@
-//! Tests of the validator, of labels and of linking by the public calls.
+//! Tests of exports, of the validator, of labels and of linking by the public calls.
 #![tactic(auto)]
 
 #[cfg(test)]
@@ -13,3 +13,5 @@ mod validate;
 mod validate_bodies;
 #[cfg(test)]
 mod validate_modules;
+#[cfg(test)]
+mod wasm;

@@ -2,8 +2,8 @@
 //! `examples/formats/read.py`, which was written from that page alone, answers the same. Lengths are those of the arrays.
 use crate::seq::program_of;
 use bl_base::{NoMemory, Pos, SiteSet};
-use bl_cmd::{WellFormed, weight};
 use bl_image::{ImageError, decode_image, encode, image_length};
+use bl_program::{WellFormed, weight};
 use std::alloc::Global;
 use std::test::Fail;
 use tests_samples::{ADD_ONE_IMAGE, DEMANDED_IMAGE, EMPTY_IMAGE, GROWTH_IMAGE, LOADS_IMAGE};

@@ -1,7 +1,7 @@
 //! What plain runs come to. The six commands of the one program and the bounds test of the other were followed by hand.
 use bl_base::{List, NoMemory, Pages, Run, Start, Trap};
-use bl_cmd::WellFormed;
 use bl_image::decode_image;
+use bl_program::WellFormed;
 use bl_seq::run;
 use std::alloc::Global;
 use std::test::Fail;

@@ -3,8 +3,8 @@
 use crate::images::{DOUBLED, LOADS, SUM};
 use crate::least::{certificate_of, program_of, verdict};
 use bl_base::{NoMemory, Pos, SiteSet};
-use bl_cmd::WellFormed;
 use bl_cut::protect;
+use bl_program::WellFormed;
 use bl_witness::{CertError, CertVerdict, from_json};
 use std::alloc::Global;
 use std::test::Fail;

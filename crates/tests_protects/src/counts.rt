@@ -4,10 +4,10 @@ ghost use Rattle.std.specs.Prelude.{◌<◌, ◌^◌, IsTrue};
 ghost use Rattle.std.specs.List.{All};
 
 use bl_base::{List, NoMemory, Pos, Start};
-use bl_cmd::WellFormed;
 use bl_counts::{CountError, CountFile, CountFileError, SiteCount, count_run, read_counts, weigh};
 use bl_cut::least_protects;
 use bl_image::decode_image;
+use bl_program::WellFormed;
 use std::alloc::Global;
 use std::test::Fail;
 use tests_starts::is_start;

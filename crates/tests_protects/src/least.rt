@@ -1,9 +1,9 @@
 //! What is found for the bytes of an image. Bytes that are no image, and texts that are no certificate, are answered like want of memory.
 use bl_base::{NoMemory, Pos, SiteSet};
-use bl_cmd::WellFormed;
 use bl_cut::{Choice, least_protects, protect};
 use bl_graph::Certificate;
 use bl_image::decode_image;
+use bl_program::WellFormed;
 use bl_transient::{FlowVerdict, flows};
 use bl_witness::{CertVerdict, check_certificate, from_json, to_json};
 use std::alloc::Global;

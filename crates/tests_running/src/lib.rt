@@ -1,4 +1,4 @@
-//! Tests of commands that run what is built: `interp`, `run`, `spec`, `twin`, `forward` and `predict`, over lists of modules and over images, also such
+//! Tests of commands that run what is built: `interp`, `run`, `spec` and `predict`, over lists of modules and over images, also such
 //! as are cut or changed at a byte or declare more than they name.
 #![tactic(auto)]
 
@@ -6,8 +6,6 @@
 mod blocks;
 #[cfg(test)]
 mod declared;
-#[cfg(test)]
-mod forward;
 #[cfg(test)]
 mod greatest;
 #[cfg(test)]
@@ -22,5 +20,3 @@ mod run;
 mod spec;
 #[cfg(test)]
 mod tampered;
-#[cfg(test)]
-mod twin;

@@ -1,9 +1,9 @@
 //! The machine that forwards stores. What it shows and what loads find are as `oracles/traces.py` prints them. Directives are letters, as there: `f` fetches,
 //! `y` and `n` predict that the condition isn't 0 or that it is, `r` retires, and a digit executes that entry.
 use bl_base::{List, NoMemory, Run, Start, Var};
-use bl_cmd::WellFormed;
 use bl_forward::{ForwardVerdict, Fwd, Seen, compare_forwarding, forward_safe};
 use bl_image::decode_image;
+use bl_program::WellFormed;
 use bl_rob::{Directive, Kind, Observation};
 use bl_twin::{Compared, Comparison, compare_runs};
 use std::alloc::Global;

@@ -1,9 +1,9 @@
 //! The machine that forwards stores near its greatest inputs, where want of memory could hide. By hand: no sink reads what is loaded, so two runs are alike
 //! to the last directive.
 use bl_base::{List, NoMemory, Run, Start};
-use bl_cmd::WellFormed;
 use bl_forward::{ForwardVerdict, Fwd, compare_forwarding, forward_safe};
 use bl_image::decode_image;
+use bl_program::WellFormed;
 use bl_rob::Directive;
 use bl_twin::{Compared, Comparison};
 use std::alloc::Global;

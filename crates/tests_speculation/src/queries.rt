@@ -2,8 +2,8 @@
 //! is enabled is made, or refused for memory alone, and a fetch goes on behind its command, or to where that jumps.
 use crate::room::start_of;
 use bl_base::{NoMemory, Pos, Start};
-use bl_cmd::WellFormed;
 use bl_image::decode_image;
+use bl_program::WellFormed;
 use bl_rob::{Directive, Kind, Machine, Observation, Rob, StepError};
 use bl_seq::Layout;
 use std::alloc::Global;

@@ -1,7 +1,7 @@
 //! A buffer with room for one entry. How many directives are made is as `oracles/traces.py` prints it.
 use bl_base::{List, NoMemory, Start};
-use bl_cmd::WellFormed;
 use bl_image::decode_image;
+use bl_program::WellFormed;
 use bl_rob::{Directive, Observation, Observed, Rob};
 use std::alloc::Global;
 use std::test::Fail;

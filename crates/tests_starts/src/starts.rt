@@ -1,9 +1,9 @@
 //! Starts that fit a program's function.
 ghost use Rattle.std.specs.Prelude.{◌≡◌, IfOk, IsTrue, map};
-ghost use Rattle.bl_cmd.specs.Outcomes.{IsStart};
+ghost use Rattle.bl_program.specs.Outcomes.{IsStart};
 
 use bl_base::{NoMemory, Start, ValueType, fits};
-use bl_cmd::{MemoryDef, ParamDef, WellFormed};
+use bl_program::{MemoryDef, ParamDef, WellFormed};
 use std::alloc::Global;
 
 /// The types of parameters.

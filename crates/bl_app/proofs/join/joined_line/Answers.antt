@@ -1,7 +1,7 @@
 use Rattle.std.proofs.Common.{◌≡◌, ◌∙◌, ◌++◌, ap, length, codes, [], ◌∷◌}
 use Rattle.std.specs.Fmt.{decimal}
 use Rattle.bl_outcome.proofs.MemoryTexts.{two_numbers}
-use Rattle.bl_cmd.specs.declared.definitions.ProgramParts.{ProgramParts as Program}
+use Rattle.bl_program.specs.declared.definitions.ProgramParts.{ProgramParts as Program}
 use Rattle.bl_app.proofs.join.joined_line.Goals as goal
 
 pub returns : goal.returns

@@ -1,5 +1,5 @@
 use Rattle.std.proofs.Common.{subst}
-use Rattle.bl_cmd.specs.Programs.{IsProgram}
+use Rattle.bl_program.specs.Programs.{IsProgram}
 use Rattle.bl_build.specs.StageAnswers.{certified_in}
 use Rattle.bl_app.proofs.VerifyLemmas.{found_shows}
 use Rattle.bl_app.proofs.verify.judge_of.Goals as goal

@@ -1,4 +1,4 @@
-use Rattle.bl_cmd.specs.declared.definitions.ProgramParts.{ProgramParts as Program}
+use Rattle.bl_program.specs.declared.definitions.ProgramParts.{ProgramParts as Program}
 use Rattle.bl_build.specs.BuildStages.{building, lowering, sizing, without_image}
 use Rattle.bl_job.specs.Stages.{at_first}
 use Rattle.bl_build.proofs.BuildLemmas.{still_refused, unmade_behind}

@@ -1,5 +1,5 @@
 use Rattle.std.proofs.Common.{Some}
-use Rattle.bl_cmd.specs.declared.definitions.ProgramParts.{ProgramParts as Program}
+use Rattle.bl_program.specs.declared.definitions.ProgramParts.{ProgramParts as Program}
 use Rattle.bl_build.specs.BuildStages.{lowering, sizing, without_image}
 use Rattle.bl_build.specs.WeightStages.{building_by, weighing}
 use Rattle.bl_job.specs.Stages.{at_first, chain}

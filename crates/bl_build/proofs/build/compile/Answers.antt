@@ -1,5 +1,5 @@
 use Rattle.bl_build.specs.BuildStages.{compiling, without_image}
-use Rattle.bl_cmd.specs.declared.definitions.ProgramParts.{ProgramParts as Program}
+use Rattle.bl_program.specs.declared.definitions.ProgramParts.{ProgramParts as Program}
 use Rattle.bl_build.specs.StageAnswers.{built_in}
 use Rattle.bl_build.proofs.BuildLemmas.{compiled_again, still_refused}
 use Rattle.bl_build.proofs.build.compile.Goals as goal

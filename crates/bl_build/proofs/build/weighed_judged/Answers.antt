@@ -1,4 +1,4 @@
-use Rattle.bl_cmd.specs.declared.definitions.ProgramParts.{ProgramParts as Program}
+use Rattle.bl_program.specs.declared.definitions.ProgramParts.{ProgramParts as Program}
 use Rattle.bl_build.specs.BuildStages.{sizing, without_image}
 use Rattle.bl_build.specs.WeightStages.{weighing}
 use Rattle.bl_job.specs.Stages.{at_first, chain}

@@ -1,5 +1,5 @@
 use Rattle.std.proofs.Common.{◌≡◌, ◌++◌, map, drop}
-use Rattle.bl_cmd.specs.declared.definitions.ParamDef.{ParamDef}
+use Rattle.bl_program.specs.declared.definitions.ParamDef.{ParamDef}
 use Rattle.bl_build.specs.EntryStages.{kinds_of}
 use Rattle.bl_build.proofs.entry.kinds_of.Given as goal
 

@@ -1,5 +1,5 @@
 use Rattle.std.proofs.Common.{◌≡◌, ◌++◌, map, drop}
-use Rattle.bl_cmd.specs.declared.definitions.MemoryDef.{MemoryDef}
+use Rattle.bl_program.specs.declared.definitions.MemoryDef.{MemoryDef}
 use Rattle.bl_build.specs.EntryStages.{pages_of}
 use Rattle.bl_build.proofs.entry.pages_of.Given as goal
 

@@ -1,4 +1,4 @@
-use Rattle.bl_cmd.specs.declared.definitions.ProgramParts.{ProgramParts as Program}
+use Rattle.bl_program.specs.declared.definitions.ProgramParts.{ProgramParts as Program}
 use Rattle.bl_build.specs.BuildStages.{compiling, without_image}
 use Rattle.bl_build.specs.HardenStage.{hardening}
 use Rattle.bl_build.specs.StageAnswers.{hardened_in}

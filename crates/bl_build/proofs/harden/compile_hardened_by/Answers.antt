@@ -1,5 +1,5 @@
 use Rattle.std.proofs.Common.{Bor, List, map, ℕ}
-use Rattle.bl_cmd.specs.declared.definitions.ProgramParts.{ProgramParts as Program}
+use Rattle.bl_program.specs.declared.definitions.ProgramParts.{ProgramParts as Program}
 use Rattle.bl_build.specs.BuildStages.{without_image}
 use Rattle.bl_build.specs.WeightStages.{compiling_by, counted_sources, hardening_by}
 use Rattle.bl_build.specs.StageAnswers.{hardened_in}

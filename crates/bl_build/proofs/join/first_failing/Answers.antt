@@ -1,6 +1,6 @@
 use Rattle.std.proofs.Common.{subst}
 use Rattle.bl_base.specs.declared.names.Role.TheVariants.{Client, Library}
-use Rattle.bl_cmd.specs.Sites.{is_protected}
+use Rattle.bl_program.specs.Sites.{is_protected}
 use Rattle.bl_iface.specs.RoleTests.{JudgesAs}
 use Rattle.bl_build.specs.JoinStages.{client_fails, library_fails}
 use Rattle.bl_build.proofs.join.first_failing.Goals as goal

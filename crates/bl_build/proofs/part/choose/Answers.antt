@@ -1,6 +1,6 @@
 use Rattle.std.proofs.Common.{◌≡◌, sym, ◌∙◌, subst}
 use Rattle.std.specs.FinSet as fin
-use Rattle.bl_cmd.specs.Sites.{is_protected, weight_of}
+use Rattle.bl_program.specs.Sites.{is_protected, weight_of}
 use Rattle.bl_build.specs.InterfaceStages.{side_of}
 use Rattle.bl_build.proofs.InterfaceWork.{marked_weight, not_chosen}
 use Rattle.bl_build.proofs.part.choose.Goals as goal

@@ -1,5 +1,5 @@
 use Rattle.std.proofs.Common.{refl}
-use Rattle.bl_cmd.specs.declared.definitions.ProgramParts.{ProgramParts as Program}
+use Rattle.bl_program.specs.declared.definitions.ProgramParts.{ProgramParts as Program}
 use Rattle.bl_build.specs.BuildStages.{compiling, without_image}
 use Rattle.bl_build.specs.InterfaceStages.{parting}
 use Rattle.bl_build.specs.StageAnswers.{parted_in}

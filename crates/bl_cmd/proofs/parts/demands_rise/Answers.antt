@@ -1,8 +1,8 @@
 use Rattle.std.proofs.Common.{refl, sym, ◌∙◌}
 use Rattle.std.proofs.lemmas.Bool.{false≢true}
 use Rattle.bl_base.proofs.AscendingLists.{adjacent_none, adjacent_next, pairs_all, not_pairs}
-use Rattle.bl_cmd.specs.Rules.{Precedes}
-use Rattle.bl_cmd.proofs.Totals.{precedes_trans}
+use Rattle.bl_program.specs.Rules.{Precedes}
+use Rattle.bl_program.proofs.Totals.{precedes_trans}
 use Rattle.bl_cmd.proofs.parts.demands_rise.Goals as goal
 
 pub loop-i-init : goal.loop-i-init

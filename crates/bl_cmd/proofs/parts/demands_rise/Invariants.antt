@@ -1,5 +1,5 @@
 use Rattle.std.specs.List.{AllAdjacentBelow}
-use Rattle.bl_cmd.specs.Rules.{Precedes}
+use Rattle.bl_program.specs.Rules.{Precedes}
 use Rattle.bl_cmd.proofs.parts.demands_rise.Given as goal
 
 abbrev pub invariant-loop-i : goal.invariant-loop-i

@@ -1,6 +1,6 @@
 use Rattle.std.proofs.Common.{◌≡◌, ◌≤◌}
-use Rattle.bl_cmd.specs.Layout.{sum_before}
-use Rattle.bl_cmd.specs.declared.definitions.FunctionDef.{FunctionDef}
+use Rattle.bl_program.specs.Layout.{sum_before}
+use Rattle.bl_program.specs.declared.definitions.FunctionDef.{FunctionDef}
 use Rattle.bl_cmd.proofs.parts.have_few.Given as goal
 
 abbrev pub invariant-loop-function : goal.invariant-loop-function

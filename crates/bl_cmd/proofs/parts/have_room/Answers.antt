@@ -1,7 +1,7 @@
 use Rattle.std.proofs.Common.{arith}
 use Rattle.std.proofs.lemmas.Bool.{false≢true}
-use Rattle.bl_cmd.specs.declared.definitions.MemoryDef.{MemoryDef}
-use Rattle.bl_cmd.proofs.Totals.{total_next, total_whole}
+use Rattle.bl_program.specs.declared.definitions.MemoryDef.{MemoryDef}
+use Rattle.bl_program.proofs.Totals.{total_next, total_whole}
 use Rattle.bl_cmd.proofs.parts.have_room.Goals as goal
 
 pub returns-then-memory-most : goal.returns-then-memory-most

@@ -1,7 +1,7 @@
 use Rattle.std.proofs.Common.{◌<◌, refl, arith}
 use Rattle.std.proofs.lemmas.Bool.{false≢true}
 use Rattle.bl_base.proofs.AscendingLists.{adjacent_none, adjacent_next, pairs_all, not_pairs, not_below}
-use Rattle.bl_cmd.specs.declared.definitions.MemRow.{MemRow}
+use Rattle.bl_program.specs.declared.definitions.MemRow.{MemRow}
 use Rattle.bl_cmd.proofs.parts.rows_rise.Goals as goal
 
 pub loop-i-init : goal.loop-i-init

@@ -1,8 +1,8 @@
 use Rattle.std.proofs.Common.{◌∙◌, true, ap}
 use Rattle.bl_ops.specs.declared.op.Op.TheVariants.{I32Sub, Move}
-use Rattle.bl_cmd.specs.Rules.{assign}
-use Rattle.bl_cmd.specs.declared.command.Operand.{Operand}
-use Rattle.bl_cmd.specs.declared.command.Operand.TheVariants.{Const}
+use Rattle.bl_program.specs.Rules.{assign}
+use Rattle.bl_program.specs.declared.command.Operand.{Operand}
+use Rattle.bl_program.specs.declared.command.Operand.TheVariants.{Const}
 use Rattle.bl_cmd.proofs.Commands.{no_growth_t, no_growth_test, growth_is}
 use Rattle.bl_cmd.proofs.rules.is_growth.Goals as goal
 

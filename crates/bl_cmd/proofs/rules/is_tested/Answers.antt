@@ -1,8 +1,8 @@
 use Rattle.std.proofs.Common.{◌∙◌, ap}
 use Rattle.bl_ops.specs.declared.op.Op.TheVariants.{Outside}
-use Rattle.bl_cmd.specs.Rules.{assign}
-use Rattle.bl_cmd.specs.declared.command.Operand.{Operand}
-use Rattle.bl_cmd.specs.declared.command.Operand.TheVariants.{Const}
+use Rattle.bl_program.specs.Rules.{assign}
+use Rattle.bl_program.specs.declared.command.Operand.{Operand}
+use Rattle.bl_program.specs.declared.command.Operand.TheVariants.{Const}
 use Rattle.bl_cmd.proofs.Commands.{tested_is}
 use Rattle.bl_cmd.proofs.rules.is_tested.Goals as goal
 

@@ -1,4 +1,4 @@
-use Rattle.bl_cmd.specs.Rules.{operands_of}
+use Rattle.bl_program.specs.Rules.{operands_of}
 use Rattle.bl_cmd.proofs.Commands.{reads_each}
 use Rattle.bl_cmd.proofs.rules.may_read.Goals as goal
 

@@ -1,9 +1,9 @@
 use Rattle.std.proofs.Common.{◌≡◌, ◌+◌, suc, Some, slice_get, arith}
 use Rattle.std.proofs.lemmas.Option.{slice_get_within}
 use Rattle.bl_base.proofs.Lists.{item_at}
-use Rattle.bl_cmd.specs.Layout.{entry_of}
-use Rattle.bl_cmd.proofs.Layouts.{next_entry, entry_below}
-use Rattle.bl_cmd.proofs.TableLemmas.{values_next}
+use Rattle.bl_program.specs.Layout.{entry_of}
+use Rattle.bl_program.proofs.Layouts.{next_entry, entry_below}
+use Rattle.bl_program.proofs.ValueLists.{values_next}
 use Rattle.bl_cmd.proofs.tables.entries_of.Goals as goal
 
 pub overflow_add-entry : goal.overflow_add-entry

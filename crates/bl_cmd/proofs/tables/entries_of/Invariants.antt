@@ -1,6 +1,6 @@
 use Rattle.std.proofs.Common.{◌≡◌}
-use Rattle.bl_cmd.specs.Layout.{entry_of}
-use Rattle.bl_cmd.specs.Tables.{AreValues}
+use Rattle.bl_program.specs.Layout.{entry_of}
+use Rattle.bl_program.specs.Layout.{AreValues}
 use Rattle.bl_cmd.proofs.tables.entries_of.Given as goal
 
 abbrev pub invariant-loop-function : goal.invariant-loop-function

@@ -1,4 +1,5 @@
-use Rattle.bl_cmd.proofs.Faults.{unbroken, fault_of}
+use Rattle.bl_program.proofs.BrokenRules.{unbroken}
+use Rattle.bl_cmd.proofs.Faults.{fault_of}
 use Rattle.bl_cmd.proofs.verdict.check.Goals as goal
 
 pub returns-in-Ok-Some-clause-only : goal.returns-in-Ok-Some-clause-only

@@ -1,8 +1,8 @@
 use Rattle.std.proofs.Common.{rules, ◌+◌, suc, refl, sym, ap, subst, length, arith}
-use Rattle.bl_cmd.specs.declared.command.Command.{Command}
+use Rattle.bl_program.specs.declared.command.Command.{Command}
 use Rattle.bl_cmd.specs.Verdicts.{KeepsBelow, IsFaultIn}
 use Rattle.bl_cmd.proofs.Faults.{keeps_begin, keeps_next, keeps_end}
-use Rattle.bl_cmd.proofs.Layouts.{holds_within}
+use Rattle.bl_program.proofs.Layouts.{holds_within}
 use Rattle.bl_cmd.proofs.TableLemmas.{entry_value, holds_between, reads_at}
 use Rattle.bl_cmd.proofs.verdict.fault_in.Goals as goal
 

@@ -2,7 +2,7 @@ use Rattle.std.proofs.Common.{◌∙◌, refl, sym, ap, arith, ◌+◌, List, �
 use Rattle.bl_counts.proofs.RisingCounts.{passed_by, read_as, rising, taken}
 use Rattle.bl_counts.proofs.weighing.weights_of.Goals as goal
 use Rattle.bl_counts.proofs.weighing.weights_of.Goals.{in-Some+in_ok-push-in-Some, in-None+in_ok-push-in-None}
-use Rattle.bl_cmd.specs.declared.definitions.SiteWeight.{SiteWeight}
+use Rattle.bl_program.specs.declared.definitions.SiteWeight.{SiteWeight}
 use Rattle.bl_counts.specs.RunCounts.{count_in, weights_from}
 
 pub loop-at-init : goal.loop-at-init

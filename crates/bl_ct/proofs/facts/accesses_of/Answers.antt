@@ -1,7 +1,7 @@
 use Rattle.std.proofs.Common.{[], length, sym, ap, subst, arith}
 use Rattle.std.specs.Prelude.{option_map}
 use Rattle.bl_base.specs.declared.number.Var.{Var}
-use Rattle.bl_cmd.specs.declared.command.Command.{Command}
+use Rattle.bl_program.specs.declared.command.Command.{Command}
 use Rattle.bl_ct.specs.Facts.{Gathers, LoadFits, StoreFits}
 use Rattle.bl_ct.proofs.DeclaredLists.{load_step, store_step}
 use Rattle.bl_ct.proofs.GatheredLists.{Below, gathers_begin, gathers_end}

@@ -1,10 +1,10 @@
 use Rattle.std.proofs.Common.{◌≡◌, ◌<◌, ◌^◌, Some, slice_get, [], length, sym, ap, subst, arith}
-use Rattle.std.specs.List.{slice_index_or}
+use Rattle.std.specs.Prelude.{slice_index}
 use Rattle.bl_base.proofs.Lists.{item_at}
-use Rattle.bl_cmd.specs.Layout.{first_of}
-use Rattle.bl_cmd.specs.declared.definitions.FunctionDef.{FunctionDef}
+use Rattle.bl_program.specs.Layout.{first_of}
+use Rattle.bl_program.specs.declared.definitions.FunctionDef.{FunctionDef}
 use Rattle.bl_ct.specs.Facts.{Gathers, SomeAt, GlobalFits, ParamFits, FunctionFits}
-use Rattle.bl_ct.proofs.DeclaredLists.{declared_are, first_is, firsts_count, globals_few, params_fit}
+use Rattle.bl_ct.proofs.DeclaredLists.{declared_are, globals_few, params_fit}
 use Rattle.bl_ct.proofs.GatheredLists.{behind_begin, behind_next, behind_end}
 use Rattle.bl_ct.proofs.facts.declared_of.Goals as goal
 
@@ -19,7 +19,7 @@ loop-number-init c =
 
 pub bounds-firsts-number : goal.bounds-firsts-number
 bounds-firsts-number c =
-    let count = firsts_count c.args.parts.now c.args.firsts.now c.requires.firsts in
+    let count = c.requires.firsts.len in
     let all = ap (length {A = FunctionDef}) c.as_slice-function-items.ensures in
     let lt = c.loop-number-test.true in
     omega arith
@@ -29,7 +29,7 @@ push_params-requires c =
     let item = item_at c.args.parts.now.functions _ _ _ c.as_slice-function-items.ensures c.loop-number-test.true c.function-item.is in
     let all = ap (length {A = FunctionDef}) c.as_slice-function-items.ensures in
     let lt = c.loop-number-test.true in
-    let first = first_is c.args.parts.now c.args.firsts.now c.requires.firsts c.loop-number.number 0 (omega arith) in
+    let first = c.requires.firsts.each c.loop-number.number (omega arith) in
     let fits = params_fit c.args.parts.now c.requires.rules c.loop-number.number c.function-item.result item in
     let params = ap length c.as_slice-params.ensures in
     omega arith
@@ -40,12 +40,12 @@ loop-number-preserved c =
     item_at c.args.parts.now.functions _ _ _ c.as_slice-function-items.ensures c.loop-number-test.true c.function-item.is in
     let all = ap (length {A = FunctionDef}) c.as_slice-function-items.ensures in
     let lt = c.loop-number-test.true in
-    let first : slice_index_or c.args.firsts.now c.loop-number.number 0 ≡ first_of c.args.parts.now c.loop-number.number =
-    first_is c.args.parts.now c.args.firsts.now c.requires.firsts c.loop-number.number 0 (omega arith) in
+    let first : slice_index c.args.firsts.now c.loop-number.number ≡ first_of c.args.parts.now c.loop-number.number =
+    c.requires.firsts.each c.loop-number.number (omega arith) in
     behind_next c.args.parts.now.functions (FunctionFits c.args.parts.now) (SomeAt c.args.parts.now.globals GlobalFits)
     c.loop-number.number c.function-item.result [] c.loop-number.all c.push_params.new.all item
     (subst (λ f. Gathers (SomeAt c.function-item.result.params (ParamFits c.loop-number.number f)) c.loop-number.all c.push_params.new.all) first
-    (subst (λ l. Gathers (SomeAt l (ParamFits c.loop-number.number (slice_index_or c.args.firsts.now c.loop-number.number 0))) c.loop-number.all c.push_params.new.all)
+    (subst (λ l. Gathers (SomeAt l (ParamFits c.loop-number.number (slice_index c.args.firsts.now c.loop-number.number))) c.loop-number.all c.push_params.new.all)
     c.as_slice-params.ensures c.in_ok-push_params.ensures))
     c.loop-number.invariant
 

@@ -1,5 +1,5 @@
 use Rattle.std.proofs.Common.{◌∙◌, ap, length, arith}
-use Rattle.bl_cmd.specs.declared.definitions.FunctionDef.{FunctionDef}
+use Rattle.bl_program.specs.declared.definitions.FunctionDef.{FunctionDef}
 use Rattle.bl_ct.proofs.DeclaredLists.{function_is, params_small, params_are}
 use Rattle.bl_ct.proofs.facts.params_of.Goals as goal
 

@@ -3,9 +3,9 @@ use Rattle.std.specs.Prelude.{◌↔◌}
 use Rattle.std.specs.List.{slice_index_or, Contains}
 use Rattle.std.proofs.lemmas.List.{get_or-map, length-replicate}
 use Rattle.std.proofs.lemmas.Option.{slice_get-get_or, slice_get_within}
-use Rattle.bl_cmd.specs.declared.definitions.ProgramParts.{ProgramParts as Program}
+use Rattle.bl_program.specs.declared.definitions.ProgramParts.{ProgramParts as Program}
 use Rattle.bl_ct.specs.declared.search.Step.{Step}
-use Rattle.bl_cmd.specs.Sites.{Reads}
+use Rattle.bl_program.specs.Sites.{Reads}
 use Rattle.bl_graph.specs.Arcs.{rows_in, row_at}
 use Rattle.bl_graph.specs.Names.{place_of}
 use Rattle.bl_ct.specs.SecretSearch.{Has}

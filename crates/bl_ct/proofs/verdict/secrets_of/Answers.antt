@@ -1,6 +1,6 @@
 use Rattle.std.proofs.Common.{◌≡◌, ◌∙◌, sym, subst}
-use Rattle.bl_cmd.specs.Programs.{IsProgram}
-use Rattle.bl_cmd.specs.declared.definitions.ProgramParts.{ProgramParts as Program}
+use Rattle.bl_program.specs.Programs.{IsProgram}
+use Rattle.bl_program.specs.declared.definitions.ProgramParts.{ProgramParts as Program}
 use Rattle.bl_ct.specs.Facts.{AreFacts, HasNoSecrets}
 use Rattle.bl_ct.specs.Verdicts.{AreSecrets}
 use Rattle.bl_ct.proofs.KnownRanges.{names_all, secrets_in_range, vars_small}

@@ -1,5 +1,5 @@
 use Rattle.std.proofs.Common.{◌≡◌, ◌∙◌, ap, length, map}
-use Rattle.bl_cmd.specs.declared.definitions.ProgramParts.{ProgramParts}
+use Rattle.bl_program.specs.declared.definitions.ProgramParts.{ProgramParts}
 use Rattle.bl_graph.specs.Ranges.{commands}
 use Rattle.bl_cut.specs.Choices.{path_of}
 use Rattle.bl_cut.proofs.FlowAnswers.{all_end_at_vars, answer_least, answer_weight, answer_certificate}

@@ -1,5 +1,5 @@
 use Rattle.std.proofs.Common.{◌≡◌, ◌∙◌, ap}
-use Rattle.bl_cmd.specs.declared.definitions.ProgramParts.{ProgramParts}
+use Rattle.bl_program.specs.declared.definitions.ProgramParts.{ProgramParts}
 use Rattle.bl_graph.specs.Ranges.{commands}
 use Rattle.bl_transient.specs.Verdicts.{asked_of}
 use Rattle.bl_cut.specs.Network.{IsNetworkUnder}

@@ -1,9 +1,9 @@
 use Rattle.std.proofs.Common.{◌-◌, List, length, take, drop, length-drop, sym, ap, ◌∙◌, subst, arith}
 use Rattle.std.proofs.lemmas.List.{take_all}
 use Rattle.std.specs.List.{All}
-use Rattle.bl_cmd.specs.Programs.{IsProgram}
-use Rattle.bl_cmd.specs.declared.command.Command.{Command}
-use Rattle.bl_cmd.specs.declared.definitions.ProgramParts.{ProgramParts as Program}
+use Rattle.bl_program.specs.Programs.{IsProgram}
+use Rattle.bl_program.specs.declared.command.Command.{Command}
+use Rattle.bl_program.specs.declared.definitions.ProgramParts.{ProgramParts as Program}
 use Rattle.bl_format.specs.Grammar.{each}
 use Rattle.bl_format.specs.Image.{additions, command, definitions, version}
 use Rattle.bl_format.specs.WriterAnswers.{DefinitionsFit, AdditionsFit, CommandFits, HasLength}

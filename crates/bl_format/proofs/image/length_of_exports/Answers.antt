@@ -1,5 +1,5 @@
 use Rattle.std.proofs.Common.{List, subst}
-use Rattle.bl_cmd.specs.declared.definitions.ExportDef.{ExportDef}
+use Rattle.bl_program.specs.declared.definitions.ExportDef.{ExportDef}
 use Rattle.bl_format.specs.Grammar.{each}
 use Rattle.bl_format.specs.Image.{export}
 use Rattle.bl_format.specs.WriterAnswers.{HasLength}

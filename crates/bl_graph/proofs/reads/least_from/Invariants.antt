@@ -1,6 +1,6 @@
 use Rattle.std.proofs.Common.{take}
 use Rattle.std.specs.Prelude.{option_map}
-use Rattle.bl_cmd.specs.Sites.{Among}
+use Rattle.bl_program.specs.Sites.{Among}
 use Rattle.bl_graph.specs.UseLists.{IsLeastFrom}
 use Rattle.bl_graph.proofs.reads.least_from.Given as goal
 

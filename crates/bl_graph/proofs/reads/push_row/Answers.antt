@@ -1,5 +1,5 @@
 use Rattle.std.proofs.Common.{◌+◌, arith}
-use Rattle.bl_cmd.specs.Sites.{Among}
+use Rattle.bl_program.specs.Sites.{Among}
 use Rattle.bl_graph.proofs.UseRows.{row_next}
 use Rattle.bl_graph.proofs.reads.push_row.Goals as goal
 

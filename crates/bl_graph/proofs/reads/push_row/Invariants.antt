@@ -1,5 +1,5 @@
 use Rattle.std.proofs.Common.{◌-◌, ◌<◌}
-use Rattle.bl_cmd.specs.Sites.{Among}
+use Rattle.bl_program.specs.Sites.{Among}
 use Rattle.bl_graph.specs.UseLists.{AddsRow}
 use Rattle.bl_graph.proofs.reads.push_row.Given as goal
 

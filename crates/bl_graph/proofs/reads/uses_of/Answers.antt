@@ -1,5 +1,5 @@
 use Rattle.std.proofs.Common.{◌≡◌, length, refl, subst, arith}
-use Rattle.bl_cmd.specs.Sites.{moved_by, sunk_by}
+use Rattle.bl_program.specs.Sites.{moved_by, sunk_by}
 use Rattle.bl_graph.specs.UseLists.{ArePlacesBelow, LoadAt, OperandAt}
 use Rattle.bl_graph.proofs.UseRows.{next_row, all_below}
 use Rattle.bl_graph.proofs.GraphPasses.{load_step, row_at, operand_low}

@@ -1,4 +1,4 @@
-use Rattle.bl_cmd.specs.Sites.{moved_by, sunk_by}
+use Rattle.bl_program.specs.Sites.{moved_by, sunk_by}
 use Rattle.bl_graph.specs.UseLists.{AreBelow, ArePlacesBelow, LoadAt, OperandAt}
 use Rattle.bl_graph.proofs.reads.uses_of.Given as goal
 

@@ -1,9 +1,9 @@
 use Rattle.std.proofs.Common.{◌≡◌, ◌<◌, Some, refl, ap, length, subst, arith}
 use Rattle.std.specs.Prelude.{option_map}
 use Rattle.bl_base.specs.declared.number.Var.{Var}
-use Rattle.bl_cmd.specs.Sites.{Writes}
-use Rattle.bl_cmd.specs.declared.command.Command.{Command}
-use Rattle.bl_cmd.proofs.Layouts.{holds_within}
+use Rattle.bl_program.specs.Sites.{Writes}
+use Rattle.bl_program.specs.declared.command.Command.{Command}
+use Rattle.bl_program.proofs.Layouts.{holds_within}
 use Rattle.bl_graph.specs.UseLists.{AreBelow}
 use Rattle.bl_graph.proofs.UseRows.{next_row}
 use Rattle.bl_graph.proofs.GraphPasses.{holds_here, stands_at, written_same, entry_up}

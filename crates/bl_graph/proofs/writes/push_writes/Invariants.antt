@@ -1,4 +1,4 @@
-use Rattle.bl_cmd.specs.Sites.{Writes}
+use Rattle.bl_program.specs.Sites.{Writes}
 use Rattle.bl_graph.specs.UseLists.{AreBelow}
 use Rattle.bl_graph.proofs.writes.push_writes.Given as goal
 

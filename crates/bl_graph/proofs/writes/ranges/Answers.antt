@@ -1,5 +1,5 @@
 use Rattle.std.proofs.Common.{subst}
-use Rattle.bl_cmd.specs.Programs.{IsProgram}
+use Rattle.bl_program.specs.Programs.{IsProgram}
 use Rattle.bl_graph.proofs.RangeLemmas.{in_range}
 use Rattle.bl_graph.proofs.writes.ranges.Goals as goal
 

@@ -1,6 +1,6 @@
 use Rattle.std.proofs.Common.{◌∙◌, ap, arith}
-use Rattle.bl_cmd.specs.declared.definitions.ProgramParts.{ProgramParts}
-use Rattle.bl_cmd.proofs.VariableSums.{one_more, fits_more}
+use Rattle.bl_program.specs.declared.definitions.ProgramParts.{ProgramParts}
+use Rattle.bl_program.proofs.VariableSums.{one_more, fits_more}
 use Rattle.bl_graph.proofs.writes.variables.Goals as goal
 
 pub overflow_add-count-in-loop-function : goal.overflow_add-count-in-loop-function

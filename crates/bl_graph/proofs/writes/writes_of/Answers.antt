@@ -1,13 +1,13 @@
-use Rattle.std.proofs.Common.{◌≡◌, ◌+◌, suc, get_or, length, refl, sym, ap, subst, ◌∙◌, arith}
+use Rattle.std.proofs.Common.{◌≡◌, ℕ, List, ◌+◌, suc, length, refl, sym, ap, subst, ◌∙◌, arith}
+use Rattle.std.specs.Prelude.{slice_index}
 use Rattle.bl_base.proofs.Lists.{item_at}
-use Rattle.bl_cmd.specs.Layout.{first_of, entry_of, statics}
-use Rattle.bl_cmd.specs.Programs.{IsProgram}
-use Rattle.bl_cmd.specs.Rules.{IsWellFormed}
-use Rattle.bl_cmd.specs.Sites.{Writes}
-use Rattle.bl_cmd.specs.declared.definitions.FunctionDef.{FunctionDef}
-use Rattle.bl_cmd.specs.declared.definitions.ProgramParts.{ProgramParts}
+use Rattle.bl_program.specs.Layout.{first_of, entry_of, AreValues}
+use Rattle.bl_program.specs.Programs.{IsProgram}
+use Rattle.bl_program.specs.Rules.{IsWellFormed}
+use Rattle.bl_program.specs.Sites.{Writes}
+use Rattle.bl_program.specs.declared.definitions.FunctionDef.{FunctionDef}
+use Rattle.bl_program.specs.declared.definitions.ProgramParts.{ProgramParts}
 use Rattle.bl_graph.specs.UseLists.{AreBelow}
-use Rattle.bl_graph.proofs.FirstVariableLemmas.{firsts_at, firsts_length}
 use Rattle.bl_graph.proofs.GraphPasses.{writes_begin, writes_end, params_fit, results_fit, end_fits, end_is, results_are}
 use Rattle.bl_graph.proofs.writes.writes_of.Goals as goal
 
@@ -17,12 +17,10 @@ loop-number-init c = record {
   entry = refl;
 }
 
-pub index-requires : goal.index-requires
-index-requires c =
-    let count = firsts_length (statics c.parts-parts.result.now) c.parts-parts.result.now.functions in
-    let items = ap length c.in_ok-firsts.ensures in
-    let value = ap length c.deref.ensures.value in
-    let len = c.deref.ensures.len in
+pub bounds-firsts-number : goal.bounds-firsts-number
+bounds-firsts-number c =
+    let len = c.in_ok-table.ensures.len in
+    let firsts = ap (length {A = ℕ}) c.as_slice-firsts.ensures in
     let lt = c.loop-number-test.true in
     let all = ap (length {A = FunctionDef}) c.as_slice-function-items.ensures in
     omega arith
@@ -42,11 +40,10 @@ overflow_add-running c =
     let item = item_at c.args.program.now.functions _ _ _ (c.as_slice-function-items.ensures ∙ ap (λ (p : ProgramParts). p.functions) same) c.loop-number-test.true c.function-item.is in
     let lt = c.loop-number-test.true in
     let all = ap (length {A = FunctionDef}) c.as_slice-function-items.ensures in
-    let first : c.index.result.now ≡ first_of c.args.program.now c.loop-number.number =
-    c.index.ensures ∙ ap (λ l. get_or l c.loop-number.number c.index.result.now) c.in_ok-firsts.ensures
-    ∙ firsts_at _ c.parts-parts.result.now.functions c.loop-number.number c.index.result.now (omega arith)
+    let first : slice_index c.as_slice-firsts.result.now c.loop-number.number ≡ first_of c.args.program.now c.loop-number.number =
+    ap (λ (l : List ℕ). slice_index l c.loop-number.number) c.as_slice-firsts.ensures ∙ c.in_ok-table.ensures.each c.loop-number.number (omega arith)
     ∙ ap (λ (p : ProgramParts). first_of p c.loop-number.number) same in
-    let fit = results_fit c.args.program.now facts c.program.ensures.rules c.loop-number.number c.function-item.result item c.index.result.now first in
+    let fit = results_fit c.args.program.now facts c.program.ensures.rules c.loop-number.number c.function-item.result item _ first in
     let len = c.len.ensures in
     omega arith
 
@@ -65,16 +62,15 @@ push_writes-requires-clause-running c =
     let item = item_at c.parts-parts.result.now.functions _ _ _ c.as_slice-function-items.ensures c.loop-number-test.true c.function-item.is in
     let lt = c.loop-number-test.true in
     let all = ap (length {A = FunctionDef}) c.as_slice-function-items.ensures in
-    let first : c.index.result.now ≡ first_of c.parts-parts.result.now c.loop-number.number =
-    c.index.ensures ∙ ap (λ l. get_or l c.loop-number.number c.index.result.now) c.in_ok-firsts.ensures
-    ∙ firsts_at _ c.parts-parts.result.now.functions c.loop-number.number c.index.result.now (omega arith) in
+    let first : slice_index c.as_slice-firsts.result.now c.loop-number.number ≡ first_of c.parts-parts.result.now c.loop-number.number =
+    ap (λ (l : List ℕ). slice_index l c.loop-number.number) c.as_slice-firsts.ensures ∙ c.in_ok-table.ensures.each c.loop-number.number (omega arith) in
     record {
       facts = facts;
       rules = rules;
       exists = omega arith;
-      firsts_are = c.deref.ensures.value ∙ c.in_ok-firsts.ensures;
-      results_from = ap (λ n. c.index.result.now + n) c.len.ensures
-          ∙ results_are c.parts-parts.result.now facts rules c.loop-number.number c.function-item.result item c.index.result.now first;
+      firsts = subst (AreValues (first_of c.parts-parts.result.now) (length c.parts-parts.result.now.functions)) (sym c.as_slice-firsts.ensures) c.in_ok-table.ensures;
+      results_from = ap (λ n. slice_index c.as_slice-firsts.result.now c.loop-number.number + n) c.len.ensures
+          ∙ results_are c.parts-parts.result.now facts rules c.loop-number.number c.function-item.result item _ first;
     }
 
 pub push_writes-requires-clause-end : goal.push_writes-requires-clause-end

@@ -1,6 +1,6 @@
 use Rattle.std.proofs.Common.{◌≡◌}
-use Rattle.bl_cmd.specs.Layout.{entry_of}
-use Rattle.bl_cmd.specs.Sites.{Writes}
+use Rattle.bl_program.specs.Layout.{entry_of}
+use Rattle.bl_program.specs.Sites.{Writes}
 use Rattle.bl_graph.specs.UseLists.{AreBelow}
 use Rattle.bl_graph.proofs.writes.writes_of.Given as goal
 

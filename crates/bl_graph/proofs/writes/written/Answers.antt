@@ -1,5 +1,5 @@
 use Rattle.std.proofs.Common.{Some, sym, ap, ◌∙◌, arith}
-use Rattle.bl_cmd.specs.Sites.{written_by}
+use Rattle.bl_program.specs.Sites.{written_by}
 use Rattle.bl_graph.proofs.FirstVariableLemmas.{arg_within, arg_small, arg_is, out_small, out_is}
 use Rattle.bl_graph.proofs.writes.written.Goals as goal
 

@@ -1,5 +1,5 @@
 use Rattle.std.proofs.Common.{◌+◌, ◌^◌, ◌<◌, sym, subst}
-use Rattle.bl_cmd.specs.declared.definitions.ExportDef.{ExportDef}
+use Rattle.bl_program.specs.declared.definitions.ExportDef.{ExportDef}
 use Rattle.bl_iface.specs.JoinedProgram.{moved_export}
 use Rattle.bl_iface.proofs.ListTests.{map_push}
 use Rattle.bl_iface.proofs.copies.push_exports.Goals as goal

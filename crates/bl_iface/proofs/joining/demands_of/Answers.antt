@@ -1,5 +1,5 @@
 use Rattle.std.proofs.Common.{ap, ◌∙◌}
-use Rattle.bl_cmd.specs.declared.definitions.ProgramParts.{ProgramParts}
+use Rattle.bl_program.specs.declared.definitions.ProgramParts.{ProgramParts}
 use Rattle.bl_iface.specs.JoinedProgram.{client_shift, library_shift}
 use Rattle.bl_iface.proofs.DemandLemmas.{demands_are}
 use Rattle.bl_iface.proofs.joining.demands_of.Goals as goal

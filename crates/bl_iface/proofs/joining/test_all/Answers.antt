@@ -1,9 +1,9 @@
 use Rattle.std.proofs.Common.{List, ap, subst, ◌∙◌}
 use Rattle.std.specs.Prelude.{MatchOption}
 use Rattle.std.specs.List.{All}
-use Rattle.bl_cmd.specs.Programs.{IsProgram}
-use Rattle.bl_cmd.specs.declared.definitions.ExportDef.{ExportDef}
-use Rattle.bl_cmd.specs.declared.definitions.ProgramParts.{ProgramParts}
+use Rattle.bl_program.specs.Programs.{IsProgram}
+use Rattle.bl_program.specs.declared.definitions.ExportDef.{ExportDef}
+use Rattle.bl_program.specs.declared.definitions.ProgramParts.{ProgramParts}
 use Rattle.bl_iface.specs.Answers.{IsFirstWithout}
 use Rattle.bl_iface.specs.JoinedProgram.{CanJoin, HasSameTypes, IsNew, IsWithin}
 use Rattle.bl_iface.proofs.JoinedWellFormed.{joined_is, joined_well}

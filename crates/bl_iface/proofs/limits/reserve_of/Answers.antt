@@ -1,6 +1,6 @@
 use Rattle.std.proofs.Common.{◌+◌, ap, ◌∙◌, arith}
-use Rattle.bl_cmd.specs.declared.definitions.MemoryDef.{MemoryDef}
-use Rattle.bl_cmd.proofs.Totals.{total_next, total_whole}
+use Rattle.bl_program.specs.declared.definitions.MemoryDef.{MemoryDef}
+use Rattle.bl_program.proofs.Totals.{total_next, total_whole}
 use Rattle.bl_iface.proofs.limits.reserve_of.Goals as goal
 
 pub overflow_add-total : goal.overflow_add-total

@@ -1,8 +1,8 @@
 use Rattle.std.proofs.Common.{◌≡◌, ◌+◌, suc, ap, ◌∙◌, arith}
 use Rattle.std.proofs.lemmas.Option.{slice_get_within}
 use Rattle.bl_base.proofs.Lists.{item_at}
-use Rattle.bl_cmd.specs.Layout.{first_of}
-use Rattle.bl_cmd.proofs.Layouts.{first_below, next_first}
+use Rattle.bl_program.specs.Layout.{first_of}
+use Rattle.bl_program.proofs.Layouts.{first_below, next_first}
 use Rattle.bl_iface.proofs.limits.vars_of.Goals as goal
 
 pub overflow_add-total-in-loop-function : goal.overflow_add-total-in-loop-function

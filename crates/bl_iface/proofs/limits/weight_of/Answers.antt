@@ -1,5 +1,5 @@
 use Rattle.std.proofs.Common.{◌∙◌, arith}
-use Rattle.bl_cmd.proofs.WeightSums.{weight_more}
+use Rattle.bl_program.proofs.WeightSums.{weight_more}
 use Rattle.bl_iface.proofs.limits.weight_of.Goals as goal
 
 pub overflow_add-total : goal.overflow_add-total

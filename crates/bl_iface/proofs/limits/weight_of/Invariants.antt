@@ -1,7 +1,7 @@
 use Rattle.std.proofs.Common.{◌≡◌, true}
 use Rattle.std.specs.Prelude.{if◌then◌else◌, unwrap_or}
 use Rattle.bl_base.specs.Sums.{sum_below}
-use Rattle.bl_cmd.specs.Sites.{site_weight}
+use Rattle.bl_program.specs.Sites.{site_weight}
 use Rattle.bl_iface.proofs.limits.weight_of.Given as goal
 
 abbrev pub invariant-loop-at : goal.invariant-loop-at

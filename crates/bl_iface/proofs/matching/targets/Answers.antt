@@ -1,6 +1,6 @@
 use Rattle.std.proofs.Common.{◌≡◌, List, ap, ◌∙◌}
-use Rattle.bl_cmd.specs.declared.definitions.ExportDef.{ExportDef}
-use Rattle.bl_cmd.specs.declared.definitions.ProgramParts.{ProgramParts}
+use Rattle.bl_program.specs.declared.definitions.ExportDef.{ExportDef}
+use Rattle.bl_program.specs.declared.definitions.ProgramParts.{ProgramParts}
 use Rattle.bl_iface.specs.JoinedProgram.{exported}
 use Rattle.bl_iface.specs.InterfaceFunctions.{IsMatched}
 use Rattle.bl_iface.proofs.ListTests.{all_done, first_without}

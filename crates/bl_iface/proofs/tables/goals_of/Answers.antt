@@ -1,6 +1,6 @@
 use Rattle.std.proofs.Common.{◌≡◌, ◌-◌, ◌<◌, ℕ, length, drop, refl, ap, sym, subst, ◌∙◌, arith}
 use Rattle.std.proofs.lemmas.List.{length-replicate, length-set}
-use Rattle.bl_cmd.specs.declared.definitions.ProgramParts.{ProgramParts}
+use Rattle.bl_program.specs.declared.definitions.ProgramParts.{ProgramParts}
 use Rattle.bl_iface.specs.PartNumbers.{LeadsTo, goal_in}
 use Rattle.bl_iface.proofs.ClientTargets.{goal_by, goals_more, goals_none, table_leads}
 use Rattle.bl_iface.proofs.tables.goals_of.Goals as goal

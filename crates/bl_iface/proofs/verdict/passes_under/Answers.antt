@@ -1,6 +1,6 @@
 use Rattle.std.proofs.Common.{◌≡◌, ℕ, Bool, ap, subst, ◌∙◌}
 use Rattle.std.specs.FinSet as fin
-use Rattle.bl_cmd.specs.Sites.{is_protected}
+use Rattle.bl_program.specs.Sites.{is_protected}
 use Rattle.bl_transient.specs.Verdicts.{JudgesUnder, asked_of}
 use Rattle.bl_iface.proofs.SideLemmas.{fails_as, passes_as}
 use Rattle.bl_iface.proofs.verdict.passes_under.Goals as goal

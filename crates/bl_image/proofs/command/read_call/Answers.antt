@@ -1,5 +1,5 @@
 use Rattle.std.proofs.Common.{refl}
-use Rattle.bl_cmd.specs.declared.command.Command.TheVariants.{Call}
+use Rattle.bl_program.specs.declared.command.Command.TheVariants.{Call}
 use Rattle.bl_image.proofs.CodeCases.{is_call, fields_fails, fields_found}
 use Rattle.bl_image.proofs.command.read_call.Goals as goal
 

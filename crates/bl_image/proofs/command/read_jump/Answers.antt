@@ -1,5 +1,5 @@
 use Rattle.std.proofs.Common.{refl}
-use Rattle.bl_cmd.specs.declared.command.Command.TheVariants.{Jump}
+use Rattle.bl_program.specs.declared.command.Command.TheVariants.{Jump}
 use Rattle.bl_image.proofs.CodeCases.{is_jump, fields_fails, fields_found}
 use Rattle.bl_image.proofs.command.read_jump.Goals as goal
 

@@ -1,5 +1,5 @@
 use Rattle.std.proofs.Common.{ℕ, drop, subst}
-use Rattle.bl_cmd.specs.Programs.{arity}
+use Rattle.bl_program.specs.Programs.{arity}
 use Rattle.bl_image.specs.ReaderAnswers.{Begins, operands_of, fields_behind}
 use Rattle.bl_image.proofs.ReaderLemmas.{fails}
 use Rattle.bl_image.proofs.Operands.{set_parts, set_found, no_set, no_set_operands}

@@ -1,5 +1,5 @@
 use Rattle.std.proofs.Common.{List, drop, sym, subst}
-use Rattle.bl_cmd.specs.declared.command.Command.{Command}
+use Rattle.bl_program.specs.declared.command.Command.{Command}
 use Rattle.bl_format.specs.Image.{header}
 use Rattle.bl_image.specs.ReaderAnswers.{Fronts, additions_of}
 use Rattle.bl_image.proofs.WholeImage.{Definitions, Listed, defined, program_with, no_header, no_definitions, no_additions, fronts_found, front_refused}

@@ -1,6 +1,6 @@
 use Rattle.std.proofs.Common.{◌≡◌, ◌+◌, ℕ, List, length, drop, ap, ◌∙◌, subst}
-use Rattle.bl_cmd.specs.Layout.{sum_before}
-use Rattle.bl_cmd.specs.declared.definitions.FunctionDef.{FunctionDef}
+use Rattle.bl_program.specs.Layout.{sum_before}
+use Rattle.bl_program.specs.declared.definitions.FunctionDef.{FunctionDef}
 use Rattle.bl_image.proofs.CommandLimit.{large_found}
 use Rattle.bl_image.proofs.decode.read_many.Goals as goal
 

@@ -1,7 +1,7 @@
 use Rattle.std.proofs.Common.{◌≡◌, ◌+◌, ℕ, refl, ap, length, arith}
-use Rattle.bl_cmd.specs.Layout.{sum_before}
-use Rattle.bl_cmd.specs.declared.definitions.FunctionDef.{FunctionDef}
-use Rattle.bl_cmd.proofs.Totals.{total_next, total_whole}
+use Rattle.bl_program.specs.Layout.{sum_before}
+use Rattle.bl_program.specs.declared.definitions.FunctionDef.{FunctionDef}
+use Rattle.bl_program.proofs.Totals.{total_next, total_whole}
 use Rattle.bl_image.proofs.decode.room_behind.Goals as goal
 
 pub loop-function-preserved : goal.loop-function-preserved

@@ -1,6 +1,6 @@
 use Rattle.std.proofs.Common.{◌≡◌, ◌++◌, map, drop}
 use Rattle.bl_lower.specs.Trees.{demanded_from, demanded_results}
-use Rattle.bl_cmd.specs.declared.definitions.Demand.TheVariants as demand
+use Rattle.bl_program.specs.declared.definitions.Demand.TheVariants as demand
 use Rattle.bl_lower.proofs.definitions.demands.Given as goal
 
 abbrev pub invariant-loop-number : goal.invariant-loop-number

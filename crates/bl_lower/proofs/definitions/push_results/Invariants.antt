@@ -1,6 +1,6 @@
 use Rattle.std.proofs.Common.{◌≡◌, ◌++◌, drop}
 use Rattle.bl_lower.specs.Trees.{demanded_from}
-use Rattle.bl_cmd.specs.declared.definitions.Demand.TheVariants as demand
+use Rattle.bl_program.specs.declared.definitions.Demand.TheVariants as demand
 use Rattle.bl_lower.proofs.definitions.push_results.Given as goal
 
 abbrev pub invariant-loop-index : goal.invariant-loop-index

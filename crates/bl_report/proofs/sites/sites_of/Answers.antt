@@ -2,7 +2,7 @@ use Rattle.std.proofs.Common.{◌≤◌, ◌<◌, ◌∙◌, ◌++◌, ◌+◌, 
 use Rattle.std.specs.Prelude.{is_some}
 use Rattle.std.specs.List.{filter, range_with_len}
 use Rattle.std.proofs.lemmas.List.{take_all}
-use Rattle.bl_cmd.specs.Sites.{is_protected, mark_at}
+use Rattle.bl_program.specs.Sites.{is_protected, mark_at}
 use Rattle.bl_report.specs.SiteTables.{is_protect}
 use Rattle.bl_report.specs.Reports.{is_site}
 use Rattle.bl_report.proofs.ProtectedSites.{counted_next, few_next, kept_next}

@@ -1,6 +1,6 @@
 use Rattle.std.proofs.Common.{◌≡◌, ◌≤◌, ◌-◌, ◌++◌, count_by, take}
 use Rattle.std.specs.List.{filter, range_with_len}
-use Rattle.bl_cmd.specs.Sites.{is_protected}
+use Rattle.bl_program.specs.Sites.{is_protected}
 use Rattle.bl_report.specs.Reports.{is_site, protects}
 use Rattle.bl_report.proofs.sites.sites_of.Given as goal
 

@@ -1,5 +1,5 @@
 use Rattle.std.proofs.Common.{◌≡◌, ◌∙◌, ap, arith, length}
-use Rattle.bl_cmd.specs.Sites.{is_protected, weight_of}
+use Rattle.bl_program.specs.Sites.{is_protected, weight_of}
 use Rattle.bl_report.specs.Reports.{protects, site_count}
 use Rattle.bl_report.proofs.ReportLines.{lines}
 use Rattle.bl_report.proofs.text.counts.Goals as goal

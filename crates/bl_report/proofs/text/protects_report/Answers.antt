@@ -1,6 +1,6 @@
 use Rattle.std.proofs.Common.{◌∙◌, subst, sym, ap}
 use Rattle.std.specs.List.{All}
-use Rattle.bl_cmd.specs.Sites.{IsSite}
+use Rattle.bl_program.specs.Sites.{IsSite}
 use Rattle.bl_report.specs.Reports.{protects}
 use Rattle.bl_report.proofs.ProtectedSites.{protects_are_sites}
 use Rattle.bl_report.proofs.text.protects_report.Goals as goal

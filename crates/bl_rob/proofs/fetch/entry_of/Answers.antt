@@ -1,6 +1,6 @@
 use Rattle.std.proofs.Common.{◌≡◌, ap, arith}
-use Rattle.bl_cmd.specs.Layout.{entry_of}
-use Rattle.bl_cmd.proofs.Entries.{entry_small}
+use Rattle.bl_program.specs.Layout.{entry_of}
+use Rattle.bl_program.proofs.Entries.{entry_small}
 use Rattle.bl_seq.specs.declared.layout.Frame.{Frame}
 use Rattle.bl_rob.proofs.fetch.entry_of.Goals as goal
 

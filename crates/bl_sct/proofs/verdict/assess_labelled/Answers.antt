@@ -1,5 +1,5 @@
 use Rattle.std.proofs.Common.{subst}
-use Rattle.bl_cmd.specs.Programs.{IsProgram}
+use Rattle.bl_program.specs.Programs.{IsProgram}
 use Rattle.bl_sct.proofs.AssessLemmas.{safe, unstable}
 use Rattle.bl_sct.proofs.verdict.assess_labelled.Goals as goal
 

@@ -1,7 +1,7 @@
 use Rattle.std.proofs.Common.{◌+◌, length, ap, arith}
 use Rattle.std.proofs.lemmas.Grind.{common_steps}
-use Rattle.bl_cmd.specs.declared.definitions.MemoryDef.{MemoryDef}
-use Rattle.bl_cmd.proofs.Layouts.{sum_up}
+use Rattle.bl_program.specs.declared.definitions.MemoryDef.{MemoryDef}
+use Rattle.bl_program.proofs.Layouts.{sum_up}
 use Rattle.bl_seq.proofs.LayoutLemmas.{sum_next}
 use Rattle.bl_seq.proofs.layout.bases_of.Goals as goal
 

@@ -1,5 +1,5 @@
 use Rattle.std.proofs.Common.{◌≡◌, ◌++◌, map, drop}
-use Rattle.bl_cmd.specs.Outcomes.{first_memory}
+use Rattle.bl_program.specs.Outcomes.{first_memory}
 use Rattle.bl_seq.proofs.opening.before_patches.Given as goal
 
 abbrev pub invariant-loop-memory : goal.invariant-loop-memory

@@ -2,7 +2,7 @@ use Rattle.std.proofs.Common.{◌≡◌, ◌<◌, ◌+◌, ◌∙◌, ap, sym, s
 use Rattle.std.specs.List.{fold}
 use Rattle.bl_base.specs.Bytes.{patched}
 use Rattle.bl_base.proofs.Lists.{zip_length}
-use Rattle.bl_cmd.specs.Outcomes.{first_memory}
+use Rattle.bl_program.specs.Outcomes.{first_memory}
 use Rattle.bl_seq.specs.InitialMemories.{IsSized, AreSized}
 use Rattle.bl_seq.proofs.InitialMachine.{sized_first, inside_at, sized_patched, patch_next}
 use Rattle.bl_seq.proofs.opening.first_contents.Goals as goal

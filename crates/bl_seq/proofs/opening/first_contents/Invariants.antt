@@ -1,7 +1,7 @@
 use Rattle.std.proofs.Common.{◌≡◌, drop}
 use Rattle.std.specs.List.{fold}
 use Rattle.bl_base.specs.Bytes.{patched}
-use Rattle.bl_cmd.specs.Outcomes.{first_memories}
+use Rattle.bl_program.specs.Outcomes.{first_memories}
 use Rattle.bl_seq.specs.InitialMemories.{AreSized}
 use Rattle.bl_seq.proofs.opening.first_contents.Given as goal
 

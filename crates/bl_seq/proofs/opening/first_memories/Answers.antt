@@ -1,6 +1,6 @@
 use Rattle.std.proofs.Common.{◌∙◌, ap, map}
 use Rattle.bl_base.specs.Runs.{memory_of}
-use Rattle.bl_cmd.specs.Outcomes.{first_memories}
+use Rattle.bl_program.specs.Outcomes.{first_memories}
 use Rattle.bl_seq.proofs.InitialMachine.{told_as}
 use Rattle.bl_seq.proofs.opening.first_memories.Goals as goal
 

@@ -1,7 +1,7 @@
 use Rattle.std.proofs.Common.{◌≡◌, ◌≤◌, ◌∙◌, ap, arith, length, sym}
 use Rattle.std.specs.List.{fold}
 use Rattle.std.proofs.lemmas.List.{at_drop_all}
-use Rattle.bl_cmd.specs.Outcomes.{first_memory, with_row}
+use Rattle.bl_program.specs.Outcomes.{first_memory, with_row}
 use Rattle.bl_seq.proofs.InitialMachine.{first_length}
 use Rattle.bl_seq.proofs.opening.first_memory.Goals as goal
 

@@ -1,6 +1,6 @@
 use Rattle.std.proofs.Common.{◌≡◌, ◌*◌, drop, replicate}
 use Rattle.std.specs.List.{fold}
-use Rattle.bl_cmd.specs.Outcomes.{with_row}
+use Rattle.bl_program.specs.Outcomes.{with_row}
 use Rattle.bl_seq.proofs.opening.first_memory.Given as goal
 
 abbrev pub invariant-loop-row : goal.invariant-loop-row

@@ -1,6 +1,6 @@
 use Rattle.std.proofs.Common.{◌≡◌, ◌++◌, map, drop}
-use Rattle.bl_cmd.specs.declared.definitions.GlobalDef.{GlobalDef}
-use Rattle.bl_cmd.specs.declared.definitions.MemoryDef.{MemoryDef}
+use Rattle.bl_program.specs.declared.definitions.GlobalDef.{GlobalDef}
+use Rattle.bl_program.specs.declared.definitions.MemoryDef.{MemoryDef}
 use Rattle.bl_seq.proofs.opening.first_statics.Given as goal
 
 abbrev pub invariant-loop-global : goal.invariant-loop-global

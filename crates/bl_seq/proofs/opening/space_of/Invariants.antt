@@ -1,5 +1,5 @@
 use Rattle.std.proofs.Common.{◌≡◌, ◌++◌, drop}
-use Rattle.bl_cmd.specs.Outcomes.{space_of}
+use Rattle.bl_program.specs.Outcomes.{space_of}
 use Rattle.bl_seq.proofs.opening.space_of.Given as goal
 
 abbrev pub invariant-loop-i : goal.invariant-loop-i

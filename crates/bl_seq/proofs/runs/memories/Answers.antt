@@ -1,7 +1,7 @@
 use Rattle.std.proofs.Common.{◌≡◌, ℕ, ◌+◌, ◌<◌, ◌≤◌, ◌∙◌, length, get_or, ap, subst, sym, arith}
 use Rattle.bl_base.specs.Runs.{memory_of}
-use Rattle.bl_cmd.specs.declared.definitions.MemoryDef.{MemoryDef}
-use Rattle.bl_cmd.proofs.Layouts.{sum_up}
+use Rattle.bl_program.specs.declared.definitions.MemoryDef.{MemoryDef}
+use Rattle.bl_program.proofs.Layouts.{sum_up}
 use Rattle.bl_seq.specs.RegisterTrees.{register_at}
 use Rattle.bl_seq.proofs.LayoutLemmas.{sum_next}
 use Rattle.bl_seq.specs.FinalMemories.{IsWhole, pages_at}

@@ -1,9 +1,9 @@
 use Rattle.std.proofs.Common.{◌≡◌, ◌+◌, ◌*◌, ◌++◌, map, drop}
 use Rattle.std.specs.List.{All}
 use Rattle.bl_base.specs.Runs.{memory_of}
-use Rattle.bl_cmd.specs.Layout.{sum_before}
-use Rattle.bl_cmd.specs.Steps.{states_from}
-use Rattle.bl_cmd.specs.declared.definitions.MemoryDef.{MemoryDef}
+use Rattle.bl_program.specs.Layout.{sum_before}
+use Rattle.bl_program.specs.Steps.{states_from}
+use Rattle.bl_program.specs.declared.definitions.MemoryDef.{MemoryDef}
 use Rattle.bl_seq.specs.FinalMemories.{IsWhole, memories_of}
 use Rattle.bl_seq.specs.RegisterTrees.{register_at}
 use Rattle.bl_seq.proofs.runs.memories.Given as goal

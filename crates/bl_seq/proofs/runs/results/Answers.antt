@@ -1,6 +1,6 @@
 use Rattle.std.proofs.Common.{◌≡◌, ℕ, ◌+◌, ◌-◌, ◌++◌, ◌∙◌, ap, arith}
-use Rattle.bl_cmd.specs.Layout.{running}
-use Rattle.bl_cmd.specs.Steps.{values_from}
+use Rattle.bl_program.specs.Layout.{running}
+use Rattle.bl_program.specs.Steps.{values_from}
 use Rattle.bl_seq.specs.RegisterTrees.{register_at}
 use Rattle.bl_seq.specs.Layouts.{frame_of}
 use Rattle.bl_seq.specs.declared.layout.Frame.{Frame}

@@ -1,5 +1,5 @@
 use Rattle.std.proofs.Common.{◌≡◌, ◌+◌, ◌-◌, ◌++◌}
-use Rattle.bl_cmd.specs.Steps.{values_from}
+use Rattle.bl_program.specs.Steps.{values_from}
 use Rattle.bl_seq.specs.RegisterTrees.{register_at}
 use Rattle.bl_seq.proofs.runs.results.Given as goal
 

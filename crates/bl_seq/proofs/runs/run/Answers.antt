@@ -1,6 +1,6 @@
 use Rattle.std.proofs.Common.{◌≡◌, ◌∙◌, subst, sym}
 use Rattle.bl_seq.specs.Layouts.{IsLayout}
-use Rattle.bl_cmd.specs.Outcomes.{IsStart}
+use Rattle.bl_program.specs.Outcomes.{IsStart}
 use Rattle.bl_seq.specs.Machines.{RunsTo, next_of, shown}
 use Rattle.bl_seq.proofs.MachineRuns.{told_run}
 use Rattle.bl_seq.proofs.FinalBytes.{ends_whole}

@@ -1,7 +1,7 @@
 use Rattle.std.proofs.Common.{◌≡◌, ◌<◌, ◌∙◌, ℕ, ap, map, sym, subst}
 use Rattle.std.specs.FinSet as fin
 use Rattle.std.specs.List.{All, Contains}
-use Rattle.bl_cmd.specs.declared.definitions.ProgramParts.{ProgramParts}
+use Rattle.bl_program.specs.declared.definitions.ProgramParts.{ProgramParts}
 use Rattle.bl_graph.specs.Graphs.{use_of}
 use Rattle.bl_graph.specs.Names.{numbered}
 use Rattle.bl_graph.specs.Ranges.{commands}

@@ -1,7 +1,7 @@
 use Rattle.std.proofs.Common.{◌+◌, sym, subst, ◌∙◌, arith}
 use Rattle.bl_base.proofs.PositionSets.{HoldsBelow, below_no, below_none, below_yes}
-use Rattle.bl_cmd.specs.Sites.{is_protected}
-use Rattle.bl_cmd.proofs.OwnProtects.{guarded_all}
+use Rattle.bl_program.specs.Sites.{is_protected}
+use Rattle.bl_program.proofs.OwnProtects.{guarded_all}
 use Rattle.bl_transient.proofs.protects.own_protects.Goals as goal
 use Rattle.bl_transient.proofs.protects.own_protects.Goals.{then-is_protected+in_ok-insert, else-is_protected}
 

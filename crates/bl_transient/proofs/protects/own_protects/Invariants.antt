@@ -1,5 +1,5 @@
 use Rattle.bl_base.proofs.PositionSets.{HoldsBelow}
-use Rattle.bl_cmd.specs.Sites.{is_protected}
+use Rattle.bl_program.specs.Sites.{is_protected}
 use Rattle.bl_transient.proofs.protects.own_protects.Given as goal
 
 abbrev pub invariant-loop-s : goal.invariant-loop-s

@@ -2,7 +2,7 @@ use Rattle.std.proofs.Common.{◌∙◌, sym, ap, length, map}
 use Rattle.std.proofs.lemmas.Bool.{false≢true}
 use Rattle.std.proofs.lemmas.List.{length-map}
 use Rattle.bl_base.specs.Runs.{memory_of}
-use Rattle.bl_cmd.specs.declared.definitions.ProgramParts.{ProgramParts}
+use Rattle.bl_program.specs.declared.definitions.ProgramParts.{ProgramParts}
 use Rattle.bl_twin.proofs.PublicLists.{there, argument_count, memory_count, carried, agree_from, arguments_from, memories_from}
 use Rattle.bl_twin.proofs.agreement.agree.Goals as goal
 

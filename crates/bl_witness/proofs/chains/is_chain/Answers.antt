@@ -1,7 +1,7 @@
 use Rattle.std.proofs.Common.{ℕ, List, map, slice_get, subst, sym}
 use Rattle.std.specs.Prelude.{IsSomeAnd}
 use Rattle.bl_base.specs.declared.number.Pos.{Pos}
-use Rattle.bl_cmd.specs.Sites.{IsLoad, Loads}
+use Rattle.bl_program.specs.Sites.{IsLoad, Loads}
 use Rattle.bl_graph.specs.Chains.{IsChain}
 use Rattle.bl_witness.proofs.ChainLinks.{leads_on, ordered}
 use Rattle.bl_witness.proofs.chains.is_chain.Goals as goal

@@ -1,6 +1,6 @@
 use Rattle.std.proofs.Common.{◌≡◌, ◌<◌, ◌≤◌, ◌∙◌, Some, slice_index, arith, subst, sym, inl, inr}
 use Rattle.std.proofs.lemmas.Bool.{cases_lt, false≢true}
-use Rattle.bl_cmd.specs.Sites.{site_weight}
+use Rattle.bl_program.specs.Sites.{site_weight}
 use Rattle.bl_witness.proofs.loads.overloaded.Goals as goal
 
 pub loop-at-preserved : goal.loop-at-preserved

@@ -1,5 +1,5 @@
 use Rattle.std.proofs.Common.{◌≡◌, ◌<◌, ◌≤◌, ℕ, Some, slice_index}
-use Rattle.bl_cmd.specs.Sites.{site_weight}
+use Rattle.bl_program.specs.Sites.{site_weight}
 use Rattle.bl_witness.proofs.loads.overloaded.Given as goal
 
 abbrev pub invariant-loop-at : goal.invariant-loop-at

@@ -1,7 +1,7 @@
 use Rattle.std.proofs.Common.{length, arith, ap, refl}
-use Rattle.bl_cmd.specs.Sites.{is_protected}
-use Rattle.bl_cmd.specs.declared.definitions.ProgramParts.{ProgramParts}
-use Rattle.bl_cmd.proofs.Totals.{weight_next}
+use Rattle.bl_program.specs.Sites.{is_protected}
+use Rattle.bl_program.specs.declared.definitions.ProgramParts.{ProgramParts}
+use Rattle.bl_program.proofs.Totals.{weight_next}
 use Rattle.bl_witness.proofs.protects.protect_weight.Goals as goal
 
 pub overflow_add-total : goal.overflow_add-total

@@ -1,6 +1,6 @@
 use Rattle.std.proofs.Common.{◌∙◌, sym, ap}
-use Rattle.bl_cmd.specs.Sites.{is_protected}
-use Rattle.bl_cmd.proofs.ProtectedWeights.{protect_weighs, protected_site}
+use Rattle.bl_program.specs.Sites.{is_protected}
+use Rattle.bl_program.proofs.ProtectedWeights.{protect_weighs, protected_site}
 use Rattle.bl_witness.proofs.protects.weight_within.Goals as goal
 
 pub site_weight-requires : goal.site_weight-requires

@@ -1,5 +1,5 @@
 use Rattle.std.proofs.Common.{◌≡◌, ◌<◌, ◌-◌, ◌^◌, ◌∙◌, ℕ, ap, length, min, slice_index}
-use Rattle.bl_cmd.specs.declared.definitions.ProgramParts.{ProgramParts as Program}
+use Rattle.bl_program.specs.declared.definitions.ProgramParts.{ProgramParts as Program}
 use Rattle.bl_graph.specs.Certificates.{flow_through}
 use Rattle.bl_graph.specs.Ranges.{commands}
 use Rattle.bl_witness.specs.Verdicts.{ArePaths, at_path}

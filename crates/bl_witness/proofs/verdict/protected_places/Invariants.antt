@@ -1,7 +1,7 @@
 use Rattle.std.proofs.Common.{◌≡◌, ◌+◌, drop}
 use Rattle.std.specs.List.{count_by}
 use Rattle.bl_base.specs.declared.number.Pos.{Pos}
-use Rattle.bl_cmd.specs.Sites.{is_protected}
+use Rattle.bl_program.specs.Sites.{is_protected}
 use Rattle.bl_witness.proofs.verdict.protected_places.Given as goal
 
 abbrev pub invariant-loop-site : goal.invariant-loop-site

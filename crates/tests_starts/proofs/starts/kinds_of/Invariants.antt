@@ -1,5 +1,5 @@
 use Rattle.std.proofs.Common.{◌≡◌, ◌++◌, map, drop}
-use Rattle.bl_cmd.specs.declared.definitions.ParamDef.{ParamDef}
+use Rattle.bl_program.specs.declared.definitions.ParamDef.{ParamDef}
 use Rattle.tests_starts.proofs.starts.kinds_of.Given as goal
 
 abbrev pub invariant-loop-param : goal.invariant-loop-param

@@ -1,5 +1,5 @@
 use Rattle.std.proofs.Common.{◌≡◌, ◌++◌, map, drop}
-use Rattle.bl_cmd.specs.declared.definitions.MemoryDef.{MemoryDef}
+use Rattle.bl_program.specs.declared.definitions.MemoryDef.{MemoryDef}
 use Rattle.tests_starts.proofs.starts.pages_of.Given as goal
 
 abbrev pub invariant-loop-memory : goal.invariant-loop-memory

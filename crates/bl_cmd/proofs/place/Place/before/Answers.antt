@@ -1,6 +1,6 @@
 use Rattle.std.proofs.Common.{ap, arith, length}
 use Rattle.bl_cmd.proofs.TableLemmas.{place_within, reads_at}
-use Rattle.bl_cmd.specs.declared.command.Command.{Command}
+use Rattle.bl_program.specs.declared.command.Command.{Command}
 use Rattle.bl_cmd.proofs.place.Place.before.Goals as goal
 
 pub offset_bounds-as_slice-self : goal.offset_bounds-as_slice-self

@@ -1,5 +1,5 @@
 use Rattle.std.proofs.Common.{Some, None, sym, ap, ◌∙◌}
-use Rattle.bl_cmd.specs.Layout.{result}
+use Rattle.bl_program.specs.Layout.{result}
 use Rattle.bl_iface.specs.JoinedProgram.{moved_var}
 use Rattle.bl_iface.specs.PartNumbers.{goal_in}
 use Rattle.bl_iface.proofs.TableReads.{index_is, index_of, index_small, read_own, read_result, result_of_index}

@@ -1,5 +1,5 @@
 use Rattle.std.proofs.Common.{drop}
-use Rattle.bl_cmd.specs.Programs.{IsCommand}
+use Rattle.bl_program.specs.Programs.{IsCommand}
 use Rattle.bl_leb.specs.Grammar.{byte, given}
 use Rattle.bl_format.specs.Image.{command, command_code, fields}
 use Rattle.bl_image.proofs.ReaderLemmas.{fails, none_head, finds_after}

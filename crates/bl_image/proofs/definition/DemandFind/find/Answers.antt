@@ -1,5 +1,5 @@
 use Rattle.std.proofs.Common.{drop, sym, ◌∙◌}
-use Rattle.bl_cmd.specs.declared.definitions.Demand.TheVariants.{Global}
+use Rattle.bl_program.specs.declared.definitions.Demand.TheVariants.{Global}
 use Rattle.bl_leb.specs.Grammar.{byte}
 use Rattle.bl_format.specs.Image.{demand, demand_code, demand_fields}
 use Rattle.bl_image.proofs.ReaderLemmas.{fails, none_head, none_after, none_case, begins_coded}

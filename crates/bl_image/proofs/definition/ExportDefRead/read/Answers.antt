@@ -1,5 +1,5 @@
 use Rattle.std.proofs.Common.{refl, ℕ, List}
-use Rattle.bl_cmd.specs.declared.definitions.ExportDef.{ExportDef}
+use Rattle.bl_program.specs.declared.definitions.ExportDef.{ExportDef}
 use Rattle.bl_format.specs.Image.{export}
 use Rattle.bl_image.proofs.ReaderLemmas.{parts_passes, parts_read}
 use Rattle.bl_image.proofs.definition.ExportDefRead.read.Goals as goal

@@ -1,7 +1,7 @@
 use Rattle.std.proofs.Common.{refl, ℕ, List}
 use Rattle.bl_base.specs.declared.names.ValueType.{ValueType}
-use Rattle.bl_cmd.specs.declared.definitions.ParamDef.{ParamDef}
-use Rattle.bl_cmd.specs.declared.definitions.FunctionDef.{FunctionDef}
+use Rattle.bl_program.specs.declared.definitions.ParamDef.{ParamDef}
+use Rattle.bl_program.specs.declared.definitions.FunctionDef.{FunctionDef}
 use Rattle.bl_format.specs.Image.{function}
 use Rattle.bl_image.proofs.ReaderLemmas.{parts_passes, parts_read}
 use Rattle.bl_image.proofs.definition.FunctionDefRead.read.Goals as goal

@@ -1,7 +1,7 @@
 use Rattle.std.proofs.Common.{refl, ℕ}
 use Rattle.bl_base.specs.declared.names.ValueType.{ValueType}
 use Rattle.bl_base.specs.declared.names.Label.{Label}
-use Rattle.bl_cmd.specs.declared.definitions.GlobalDef.{GlobalDef}
+use Rattle.bl_program.specs.declared.definitions.GlobalDef.{GlobalDef}
 use Rattle.bl_format.specs.Image.{global}
 use Rattle.bl_image.proofs.ReaderLemmas.{parts_fails, parts_read}
 use Rattle.bl_image.proofs.definition.GlobalDefFind.find.Goals as goal

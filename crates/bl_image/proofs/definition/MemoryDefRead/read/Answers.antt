@@ -1,6 +1,6 @@
 use Rattle.std.proofs.Common.{refl, ℕ}
 use Rattle.bl_base.specs.declared.names.Label.{Label}
-use Rattle.bl_cmd.specs.declared.definitions.MemoryDef.{MemoryDef}
+use Rattle.bl_program.specs.declared.definitions.MemoryDef.{MemoryDef}
 use Rattle.bl_image.specs.declared.rising.Rows.{Rows}
 use Rattle.bl_format.specs.Image.{memory}
 use Rattle.bl_image.proofs.ReaderLemmas.{parts_passes, parts_read}

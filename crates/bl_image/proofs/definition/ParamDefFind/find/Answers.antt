@@ -1,7 +1,7 @@
 use Rattle.std.proofs.Common.{refl}
 use Rattle.bl_base.specs.declared.names.ValueType.{ValueType}
 use Rattle.bl_base.specs.declared.names.Label.{Label}
-use Rattle.bl_cmd.specs.declared.definitions.ParamDef.{ParamDef}
+use Rattle.bl_program.specs.declared.definitions.ParamDef.{ParamDef}
 use Rattle.bl_format.specs.Image.{param}
 use Rattle.bl_image.proofs.ReaderLemmas.{parts_fails, parts_read}
 use Rattle.bl_image.proofs.definition.ParamDefFind.find.Goals as goal

@@ -1,5 +1,5 @@
 use Rattle.std.proofs.Common.{drop, sym, ◌∙◌}
-use Rattle.bl_cmd.specs.declared.command.Operand.TheVariants.{Var, Const}
+use Rattle.bl_program.specs.declared.command.Operand.TheVariants.{Var, Const}
 use Rattle.bl_leb.specs.Grammar.{byte}
 use Rattle.bl_format.specs.Image.{operand, operand_code, operand_fields}
 use Rattle.bl_image.proofs.ReaderLemmas.{fails, none_head, begins_coded}

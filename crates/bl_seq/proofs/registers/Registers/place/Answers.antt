@@ -1,5 +1,5 @@
 use Rattle.std.proofs.Common.{◌≡◌, ℕ, subst}
-use Rattle.bl_cmd.specs.Steps.{written}
+use Rattle.bl_program.specs.Steps.{written}
 use Rattle.bl_seq.specs.RegisterTrees.{register_at}
 use Rattle.bl_seq.specs.Windows.{MaySet, Sets, seen}
 use Rattle.bl_seq.proofs.WindowLemmas.{held_set, kept, placed}

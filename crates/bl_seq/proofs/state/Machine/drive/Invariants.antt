@@ -1,5 +1,5 @@
 use Rattle.bl_base.specs.Runs.{StepsTo}
-use Rattle.bl_cmd.specs.Steps.{plain_step}
+use Rattle.bl_program.specs.Steps.{plain_step}
 use Rattle.bl_seq.specs.Machines.{shown}
 use Rattle.bl_seq.proofs.state.Machine.drive.Given as goal
 

@@ -1,6 +1,0 @@
-use Rattle.std.proofs.Common.{◌<◌, ℕ}
-use Rattle.bl_cmd.specs.Programs.{IsTrapAt}
-use Rattle.bl_cmd.proofs.program.have_traps.Given as goal
-
-abbrev pub invariant-loop-position : goal.invariant-loop-position
-invariant-loop-position l = (position : ℕ) → position < l.position → IsTrapAt l.commands position
