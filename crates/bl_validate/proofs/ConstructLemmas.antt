@@ -11,10 +11,13 @@ use Rattle.bl_wasm.specs.declared.instruction.Instr.{Instr}
 use Rattle.bl_wasm.specs.declared.instruction.Instr.TheVariants.{Block, Loop, If, Else, End}
 use Rattle.bl_validate.specs.declared.stacks.Construct.{Construct}
 use Rattle.bl_validate.specs.declared.stacks.Frame.{Frame}
+use Rattle.bl_validate.specs.declared.stacks.Stacks.{Stacks}
+use Rattle.bl_validate.specs.declared.operands.Operands.{Operands}
 use Rattle.bl_validate.specs.declared.effects.Effect.{Effect}
 use Rattle.bl_validate.specs.HasEffect.{HasEffect, Means}
 use Rattle.bl_validate.specs.MayStand.{MayStand}
-use Rattle.bl_validate.specs.Represents.{IsOpen, AreOpen, nesting_kind, construct_type}
+use Rattle.bl_validate.specs.Represents.{IsOpen, AreOpen, Represents, labels_in, nesting_kind, construct_type}
+use Rattle.bl_validate.proofs.LabelLemmas.{labels_are}
 
 abbrev Sets : Type 1
 Sets = List WasmType → Type 0
@@ -37,12 +40,6 @@ pub lifted_push : (A : Type 0) (S0 S2 : Sets) (types : List WasmType)
     → (s : List WasmType) → (S2 s × A) ↔ ((below : List WasmType) × (s ≡ below ++ types) × (S0 below × A))
 lifted_push A S0 S2 types h s = (λ x. let q = (h s).0 x.0 in (q.0, q.1, (q.2, x.1)), λ x. ((h s).1 (x.0, x.1, x.2.0), x.2.1))
 
-pub lifted : (A : Type 0) (S0 S2 : Sets) (ok : Bool) (P : List WasmType → List WasmType → Type 0)
-    → ((to : List WasmType) → (IsTrue ok × S2 to) ↔ ((from : List WasmType) × P from to × S0 from))
-    → (to : List WasmType) → (IsTrue ok × (S2 to × A)) ↔ ((from : List WasmType) × P from to × (S0 from × A))
-lifted A S0 S2 ok P h to =
-    (λ x. let q = (h to).0 (x.0, x.1.0) in (q.0, q.1, (q.2, x.1.1)), λ x. let q = (h to).1 (x.0, x.1, x.2.0) in (q.0, (q.1, x.2.1)))
-
 -- ---- an item that stands in what is open
 
 pub stays : (c : Context) (item : Instr) (S0 S2 : Places) (ok : Bool)
@@ -54,6 +51,18 @@ stays c item S0 S2 ok h behind to = (
   λ p. let same : p.0 ≡ behind = sym p.2.inside in
       (h behind to).1 (p.1, subst (λ o. Plain c (labels c o) item p.1 to) same p.2.rule, subst (λ o. S0 o p.1) same p.3),
 )
+
+-- an item that stands, by what it does to the operands
+pub works : (c : Context) (item : Instr) (old : Stacks) (new : Operands) (ok : Bool)
+    → ((open_ones : List Open) → AreOpen (reverse old.frames.items) open_ones → (to : List WasmType)
+    → (IsTrue ok × MayStand new to) ↔ ((from : List WasmType) × Plain c (labels c open_ones) item from to × MayStand old.operands from))
+    → (behind : List Open) (to : List WasmType) → (IsTrue ok × Represents (record { operands = new; frames = old.frames }) behind to)
+    ↔ ((open_ones : List Open) × (from : List WasmType) × Stays c item open_ones from behind to × Represents old open_ones from)
+unfolding Represents
+works c item old new ok h = stays c item (Represents old) (Represents (record { operands = new; frames = old.frames })) ok (λ open_ones to. (
+  λ x. let p = (h open_ones x.1.1 to).0 (x.0, x.1.0) in (p.0, p.1, (p.2, x.1.1)),
+  λ p. let q = (h open_ones p.2.1 to).1 (p.0, p.1, p.2.0) in (q.0, (q.1, p.2.1)),
+))
 
 -- the rule of an item that neither opens nor parts nor closes a construct
 pub plain_rule : (c : Context) (item : Instr) (outer inner : List Open) (from to : List WasmType) → IsPlain item → Rule c item outer from inner to ↔ Stays c item outer from inner to
@@ -224,28 +233,29 @@ if_ok_from (Err e) P Q f h = tt
 
 -- ---- an item of known effect
 
-pub follows : (c : Context) (ls : List (List WasmType)) (item : Instr) (e : Effect) (S0 S2 : Places) (ok : Bool) → IsPlain item
-    → ((open_ones : List Open) (s : List WasmType) → S0 open_ones s → labels c open_ones ≡ ls) → Means c ls item (Some e)
-    → ((open_ones : List Open) (to : List WasmType) → (IsTrue ok × S2 open_ones to) ↔ ((from : List WasmType) × HasEffect e from to × S0 open_ones from))
-    → Over c item S0 ok S2
-follows c ls item e S0 S2 ok plain same means does behind to = (
+pub follows : (c : Context) (item : Instr) (e : Effect) (old : Stacks) (new : Operands) (ok : Bool) → IsPlain item → Means c (labels_in c.results old) item (Some e)
+    → ((to : List WasmType) → (IsTrue ok × MayStand new to) ↔ ((from : List WasmType) × HasEffect e from to × MayStand old.operands from))
+    → Over c item (Represents old) ok (Represents (record { operands = new; frames = old.frames }))
+follows c item e old new ok plain means does behind to = (
   λ x. let p = staying.0 x in (p.0, p.1, (plain_rule c item p.0 behind p.1 to plain).1 p.2, p.3),
   λ p. staying.1 (p.0, p.1, (plain_rule c item p.0 behind p.1 to plain).0 p.2, p.3),
 )
   where
-    inside : (open_ones : List Open) (to : List WasmType) → (IsTrue ok × S2 open_ones to) ↔ ((from : List WasmType) × Plain c (labels c open_ones) item from to × S0 open_ones from)
-    inside open_ones to = (
-      λ x. let p = (does open_ones to).0 x in (p.0, subst (λ l. Plain c l item p.0 to) (sym (same open_ones p.0 p.2)) ((means p.0 to).1 p.1), p.2),
-      λ p. (does open_ones to).1 (p.0, (means p.0 to).0 (subst (λ l. Plain c l item p.0 to) (same open_ones p.0 p.2) p.1), p.2),
+    inside : (open_ones : List Open) → AreOpen (reverse old.frames.items) open_ones → (to : List WasmType)
+        → (IsTrue ok × MayStand new to) ↔ ((from : List WasmType) × Plain c (labels c open_ones) item from to × MayStand old.operands from)
+    inside open_ones are to = rw (labels_are c (reverse old.frames.items) open_ones are) (
+      λ x. let p = (does to).0 x in (p.0, (means p.0 to).1 p.1, p.2),
+      λ p. (does to).1 (p.0, (means p.0 to).0 p.1, p.2),
     )
 
-    staying : (IsTrue ok × S2 behind to) ↔ ((open_ones : List Open) × (from : List WasmType) × Stays c item open_ones from behind to × S0 open_ones from)
-    staying = stays c item S0 S2 ok inside behind to
+    staying : (IsTrue ok × Represents (record { operands = new; frames = old.frames }) behind to)
+        ↔ ((open_ones : List Open) × (from : List WasmType) × Stays c item open_ones from behind to × Represents old open_ones from)
+    staying = works c item old new ok inside behind to
 
-pub not_follows : (c : Context) (ls : List (List WasmType)) (item : Instr) (S0 S2 : Places) → IsPlain item
-    → ((open_ones : List Open) (s : List WasmType) → S0 open_ones s → labels c open_ones ≡ ls) → Means c ls item None → Over c item S0 false S2
-not_follows c ls item S0 S2 plain same means behind to = (
+pub not_follows : (c : Context) (item : Instr) (old new : Stacks) → IsPlain item → Means c (labels_in c.results old) item None → Over c item (Represents old) false (Represents new)
+unfolding Represents
+not_follows c item old new plain means behind to = (
   λ x. absurd (cc x.0),
   λ p. let rule = (plain_rule c item p.0 behind p.1 to plain).0 p.2 in
-      absurd ((means p.1 to).0 (subst (λ l. Plain c l item p.1 to) (same p.0 p.1 p.3) rule.rule)),
+      absurd ((means p.1 to).0 (subst (λ l. Plain c l item p.1 to) (labels_are c (reverse old.frames.items) p.0 p.3.1) rule.rule)),
 )

@@ -3,7 +3,11 @@ use Rattle.std.proofs.Common.{◌≡◌, ◌↔◌, ◌<◌, arith, Bool, true, 
 use Rattle.std.specs.List.{All, AllWithin, HoldsAt}
 use Rattle.std.proofs.lemmas.Bool.{false≢true}
 use Rattle.std.proofs.Math.Seq.{take-append_seam}
-use Rattle.bl_wasm.specs.Validity.{IsValid, IsElement, IsData, functions_of, tables_of, memories_of, globals_of, imported, global_of, space_of}
+use Rattle.bl_wasm.specs.Validity.{IsValid, IsElement, IsData, IsInitial, IsOffset, functions_of, tables_of, memories_of, globals_of, imported, global_of, space_of}
+use Rattle.bl_wasm.specs.declared.instruction.Instr.{Instr}
+use Rattle.bl_wasm.specs.declared.instruction.Instr.TheVariants.{Unreachable}
+use Rattle.bl_wasm.specs.declared.types.GlobalType.{GlobalType}
+use Rattle.bl_wasm.specs.declared.types.WasmType.TheVariants.{I32}
 use Rattle.bl_wasm.specs.declared.module.DataSegment.{DataSegment}
 use Rattle.bl_wasm.specs.declared.module.ElementSegment.{ElementSegment}
 use Rattle.bl_wasm.specs.declared.module.Export.{Export}
@@ -19,6 +23,12 @@ pub all_from_cases : {X : Type 0} (P : X → Type 0) (xs : List X) (r : Bool) �
 all_from_cases P xs true h = (λ _ k d below. h k d (omega arith) below, λ _. refl)
 all_from_cases P [] false h = absurd (omega (arith, h.1))
 all_from_cases P (x ∷ xs) false h = (λ e. absurd (false≢true e), λ all. absurd (h.2 x (all h.0 x h.1)))
+
+-- an offset is an initial value of type i32
+pub initial_i32 : (globals : List GlobalType) (items : List Instr) → IsInitial globals I32 items ↔ IsOffset globals items
+initial_i32 globals [] = (λ h. h, λ h. h)
+initial_i32 globals (item ∷ []) = elim item as (λ i. IsInitial globals I32 (i ∷ []) ↔ IsOffset globals (i ∷ [])) [ Unreachable ↦ (λ h. h, λ h. h) | _ ↦ (λ h. h, λ h. h) ]
+initial_i32 globals (item ∷ next ∷ items) = elim item as (λ i. IsInitial globals I32 (i ∷ next ∷ items) ↔ IsOffset globals (i ∷ next ∷ items)) [ Unreachable ↦ (λ h. h, λ h. h) | _ ↦ (λ h. h, λ h. h) ]
 
 -- the imports are the first of the globals
 pub imports_first : {tree : Module} {scope : Scope} → IsScope tree scope → take scope.imported scope.globals.items ≡ imported global_of tree

@@ -7,7 +7,6 @@ use Rattle.bl_wasm.specs.declared.module.Code.{Code}
 use Rattle.bl_wasm.specs.declared.module.Import.{Import}
 use Rattle.bl_wasm.specs.declared.module.Module.{Module}
 use Rattle.bl_validate.specs.declared.body.Body.{Body}
-use Rattle.bl_validate.specs.declared.body.Sides.{Sides}
 use Rattle.bl_validate.specs.declared.scope.Scope.{Scope}
 
 -- what all bodies in a scope share
@@ -23,10 +22,6 @@ shared_by scope = record {
 -- the context that a body stands in
 abbrev pub seen : Body → Context
 seen body = placed (shared_by body.scope.now) body.locals.items body.results.now
-
--- the parameters and results of a block type
-abbrev pub sides_of : Sides → FuncType
-sides_of sides = record { params = sides.params.now; results = sides.results.now }
 
 -- the context of a body of that type and code
 abbrev pub context_in : Scope → FuncType → Code → Context

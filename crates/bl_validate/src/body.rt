@@ -1,15 +1,15 @@
 //! Whether a body has a typing (WebAssembly 1.0, section 3.3; block types with parameters and several results, version
 //! 2.0, section 3.2.2).
-ghost use Rattle.std.specs.Prelude.{◌≡◌, ◌≢◌, ◌↔◌, ◌≤◌, ◌^◌, List, [], ◌∷◌, IsTrue, IfOk, Some, length, slice_get, replicate, option_map};
+ghost use Rattle.std.specs.Prelude.{◌≡◌, ◌≢◌, ◌↔◌, ◌≤◌, ◌^◌, List, [], ◌∷◌, IsTrue, IfOk, Some, None, length, slice_get, replicate, option_map, MatchOption};
 ghost use Rattle.std.specs.List.{All};
 ghost use Rattle.bl_wasm.specs.{Instructions.IsPlain, declared.types.WasmType.WasmType};
-ghost use Rattle.bl_wasm.specs.Typing.{Context, IsTyping, integer as wasm_integer, expanded as expanded_type};
+ghost use Rattle.bl_wasm.specs.Typing.{Context, IsTyping, integer as wasm_integer, expanded};
 ghost use Rattle.bl_wasm.specs.declared.instruction.Instr.TheVariants as Instr;
 ghost use Rattle.bl_wasm.specs.declared.types.WasmType.TheVariants as WasmType;
 ghost use Rattle.bl_ops.specs.Access.{width_of};
 ghost use Rattle.bl_validate.specs.HasEffect.{Means};
-ghost use Rattle.bl_validate.specs.Represents.{Opens, Steps, labels_in};
-ghost use Rattle.bl_validate.specs.Scopes.{context_in, seen, sides_of};
+ghost use Rattle.bl_validate.specs.Represents.{Opens, Steps, construct_type, labels_in};
+ghost use Rattle.bl_validate.specs.Scopes.{context_in, seen};
 
 use crate::effects::{Effect, arrow, leaves};
 use crate::operands::I32;
@@ -28,15 +28,6 @@ struct Body<'m> {
     /// The types of its locals, parameters first.
     locals: Vec<WasmType>,
     /// The results of the function.
-    results: &'m [WasmType],
-}
-
-/// The parameters and results of a block type.
-#[derive(Clone, Copy, Debug)]
-struct Sides<'m> {
-    /// The types of the parameters.
-    params: &'m [WasmType],
-    /// The types of the results.
     results: &'m [WasmType],
 }
 
@@ -81,8 +72,8 @@ impl<'m> Body<'m> {
             Instr::If(kind) => self.begin(alloc, stacks, Kind::ThenPart, *kind, I32),
             Instr::Else => stacks.part(alloc),
             Instr::End => stacks.end(),
-            Instr::Drop => Ok(stacks.drop_one()),
-            Instr::Select => stacks.select(),
+            Instr::Drop => Ok(stacks.operands.drop_one()),
+            Instr::Select => stacks.operands.select(),
             _ => self.follow(stacks, item),
         }
     }
@@ -96,31 +87,28 @@ impl<'m> Body<'m> {
         ensures { IfOk result (λ ok. Steps (seen self.now) (item.now) stacks.old ok stacks.new) }
     {
         match self.effect(stacks, item) {
-            Some(effect) => stacks.apply(effect),
+            Some(effect) => stacks.operands.apply(effect),
             None => Ok(false),
         }
     }
 
-    /// The parameters and results of a block type; None where it names a type that doesn't exist.
-    fn expanded(&self, kind: BlockType) -> Option<Sides<'m>>
-        ensures { option_map sides_of result ≡ expanded_type self.now.scope.now.types.now kind }
+    /// A construct of that kind and block type; None where that names a type that doesn't exist.
+    fn construct(&self, kind: Kind, immediate: BlockType) -> Option<Construct<'m>>
+        ensures { MatchOption result (expanded self.now.scope.now.types.now immediate ≡ None)
+            (λ made. (made.kind ≡ kind) × (expanded self.now.scope.now.types.now immediate ≡ Some (construct_type made))) }
     {
-        Some(match kind {
-            BlockType::Empty => Sides {
-                params: &[],
-                results: &[],
-            },
-            BlockType::Value(kind) => Sides {
-                params: &[],
-                results: alone(kind),
-            },
+        let (params, results): (&[WasmType], &[WasmType]) = match immediate {
+            BlockType::Empty => (&[], &[]),
+            BlockType::Value(value) => (&[], alone(value)),
             BlockType::Index(index) => {
-                let kind = at(self.scope.types, index)?;
-                Sides {
-                    params: kind.params.as_slice(),
-                    results: kind.results.as_slice(),
-                }
+                let named = at(self.scope.types, index)?;
+                (named.params.as_slice(), named.results.as_slice())
             }
+        };
+        Some(Construct {
+            kind,
+            params,
+            results,
         })
     }
 
@@ -135,18 +123,10 @@ impl<'m> Body<'m> {
     ) -> Result<bool, NoMemory>
         ensures { IfOk result (λ ok. Opens (seen self.now) kind immediate above.now stacks.old ok stacks.new) }
     {
-        let Some(sides) = self.expanded(immediate) else {
+        let Some(construct) = self.construct(kind, immediate) else {
             return Ok(false);
         };
-        stacks.begin(
-            alloc,
-            Construct {
-                kind,
-                params: sides.params,
-                results: sides.results,
-            },
-            above,
-        )
+        stacks.begin(alloc, construct, above)
     }
 
     /// What an item does to the operands; None where no types before it keep its rule.
@@ -159,36 +139,34 @@ impl<'m> Body<'m> {
         match item {
             Instr::Unreachable => Some(leaves(&[])),
             Instr::Nop => Some(arrow(&[], &[])),
-            Instr::Br(label) => self.branch(stacks, *label),
+            Instr::Br(label) => Some(leaves(stacks.target(*label, self.results)?)),
             Instr::BrIf(label) => self.branch_if(stacks, *label),
             Instr::BrTable { default, targets } => {
                 self.branch_by(stacks, targets.as_slice(), *default)
             }
             Instr::Return => Some(leaves(self.results)),
-            Instr::Call(function) => self.call(*function),
+            Instr::Call(function) => {
+                let kind = self.scope.function(*function)?;
+                Some(arrow(kind.params.as_slice(), kind.results.as_slice()))
+            }
             Instr::CallIndirect(index) => self.call_indirect(*index),
-            Instr::LocalGet(x) => self.local_get(*x),
-            Instr::LocalSet(x) => self.local_set(*x),
-            Instr::LocalTee(x) => self.local_tee(*x),
-            Instr::GlobalGet(x) => self.global_get(*x),
+            Instr::LocalGet(x) => Some(arrow(&[], self.local(*x)?)),
+            Instr::LocalSet(x) => Some(arrow(self.local(*x)?, &[])),
+            Instr::LocalTee(x) => {
+                let types = self.local(*x)?;
+                Some(arrow(types, types))
+            }
+            Instr::GlobalGet(x) => Some(arrow(&[], alone(at(&self.scope.globals, *x)?.kind))),
             Instr::GlobalSet(x) => self.global_set(*x),
             Instr::Load { kind, argument } => self.load(*kind, *argument),
             Instr::Store { kind, argument } => self.store(*kind, *argument),
-            Instr::MemorySize => self.memory_size(),
-            Instr::MemoryGrow => self.memory_grow(),
+            Instr::MemorySize => self.on_memory(arrow(&[], I32)),
+            Instr::MemoryGrow => self.on_memory(arrow(I32, I32)),
             Instr::I32Const(_) => Some(arrow(&[], I32)),
             Instr::I64Const(_) => Some(arrow(&[], alone(WasmType::I64))),
             Instr::Integer(op) => integer(*op),
             _ => None,
         }
-    }
-
-    /// `br`.
-    fn branch(&self, stacks: &Stacks<'m>, label: u32) -> Option<Effect<'m>>
-        ensures { Means (seen self.now) (labels_in self.now.results.now stacks.now) (Instr.Br label) result }
-    {
-        let types = stacks.target(label, self.results)?;
-        Some(leaves(types))
     }
 
     /// `br_if`.
@@ -243,14 +221,6 @@ impl<'m> Body<'m> {
         }
     }
 
-    /// `call`.
-    fn call(&self, function: u32) -> Option<Effect<'m>>
-        ensures { (ls : List (List WasmType)) → Means (seen self.now) ls (Instr.Call function) result }
-    {
-        let kind = self.scope.function(function)?;
-        Some(arrow(kind.params.as_slice(), kind.results.as_slice()))
-    }
-
     /// `call_indirect`.
     fn call_indirect(&self, index: u32) -> Option<Effect<'m>>
         ensures { (ls : List (List WasmType)) → Means (seen self.now) ls (Instr.CallIndirect index) result }
@@ -266,36 +236,12 @@ impl<'m> Body<'m> {
         })
     }
 
-    /// `local.get`.
-    fn local_get(&self, x: u32) -> Option<Effect<'m>>
-        ensures { (ls : List (List WasmType)) → Means (seen self.now) ls (Instr.LocalGet x) result }
+    /// The type of a local alone, as a list; None where there is no such local.
+    fn local(&self, x: u32) -> Option<&'static [WasmType]>
+        ensures { option_map (λ types. types.now) result ≡ option_map (λ kind. kind ∷ []) (slice_get self.now.locals.items x) }
     {
         let kind = at(&self.locals, x)?;
-        Some(arrow(&[], alone(*kind)))
-    }
-
-    /// `local.set`.
-    fn local_set(&self, x: u32) -> Option<Effect<'m>>
-        ensures { (ls : List (List WasmType)) → Means (seen self.now) ls (Instr.LocalSet x) result }
-    {
-        let kind = at(&self.locals, x)?;
-        Some(arrow(alone(*kind), &[]))
-    }
-
-    /// `local.tee`.
-    fn local_tee(&self, x: u32) -> Option<Effect<'m>>
-        ensures { (ls : List (List WasmType)) → Means (seen self.now) ls (Instr.LocalTee x) result }
-    {
-        let kind = at(&self.locals, x)?;
-        Some(arrow(alone(*kind), alone(*kind)))
-    }
-
-    /// `global.get`.
-    fn global_get(&self, x: u32) -> Option<Effect<'m>>
-        ensures { (ls : List (List WasmType)) → Means (seen self.now) ls (Instr.GlobalGet x) result }
-    {
-        let global = at(&self.scope.globals, x)?;
-        Some(arrow(&[], alone(global.kind)))
+        Some(alone(*kind))
     }
 
     /// `global.set`.
@@ -336,24 +282,14 @@ impl<'m> Body<'m> {
         !self.scope.memories.is_empty() && is_aligned(kind.width(), argument.alignment)
     }
 
-    /// `memory.size`.
-    fn memory_size(&self) -> Option<Effect<'m>>
-        ensures { (ls : List (List WasmType)) → Means (seen self.now) ls (Instr.MemorySize) result }
+    /// The effect of an item on memory; None where there is no memory.
+    fn on_memory(&self, effect: Effect<'m>) -> Option<Effect<'m>>
+        ensures { MatchOption result (length self.now.scope.now.memories.items ≡ 0) (λ e. (e ≡ effect.entry) × (1 ≤ length self.now.scope.now.memories.items)) }
     {
         if self.scope.memories.is_empty() {
             return None;
         }
-        Some(arrow(&[], I32))
-    }
-
-    /// `memory.grow`.
-    fn memory_grow(&self) -> Option<Effect<'m>>
-        ensures { (ls : List (List WasmType)) → Means (seen self.now) ls (Instr.MemoryGrow) result }
-    {
-        if self.scope.memories.is_empty() {
-            return None;
-        }
-        Some(arrow(I32, I32))
+        Some(effect)
     }
 }
 

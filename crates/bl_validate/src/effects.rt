@@ -1,5 +1,5 @@
 //! What an item does to the operands.
-ghost use Rattle.std.specs.Prelude.{◌≡◌, true, false, Some, None};
+ghost use Rattle.std.specs.Prelude.{◌≡◌, false, Some, None};
 
 use bl_wasm::WasmType;
 

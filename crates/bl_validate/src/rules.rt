@@ -1,7 +1,7 @@
 //! The rules on the parts of a module other than its bodies' typing (WebAssembly 1.0, section 3.4).
 ghost use Rattle.std.specs.Prelude.{◌≡◌, ◌<◌, ◌≤◌, ◌↔◌, length, vec_len, IsTrue, IfOk, slice_get, Some, false};
 ghost use Rattle.std.specs.List.{All};
-ghost use Rattle.bl_wasm.specs.Validity.{AreDistinct, HasIntegers, IsCode, IsInitial, IsFunctionType, IsLimits, IsMemory, IsOffset, IsValid};
+ghost use Rattle.bl_wasm.specs.Validity.{AreDistinct, HasIntegers, IsCode, IsInitial, IsFunctionType, IsLimits, IsMemory, IsValid};
 ghost use Rattle.bl_validate.specs.ModuleRules.{AreExports, AreFunctions, AreGlobals, AreParts, AreStores, IsDataAt, IsElementAt, space_in};
 ghost use Rattle.bl_validate.specs.Scopes.{IsScope};
 
@@ -34,8 +34,7 @@ fn has_valid_parts(tree: &Module, scope: &Scope) -> bool
     has_valid_functions(tree, scope)
         && has_valid_stores(&scope.tables, &scope.memories)
         && has_valid_globals(globals, &globals[..scope.imported], tree.globals.as_slice())
-        && are_elements(scope, tree.elements.as_slice())
-        && are_data(scope, tree.segments.as_slice())
+        && has_valid_segments(tree, scope)
         && tree.start.is_none()
 }
 
@@ -44,16 +43,9 @@ fn has_valid_functions(tree: &Module, scope: &Scope) -> bool
     ensures { IsTrue result ↔ AreFunctions scope.now.types.now scope.now.functions.items tree.now.functions tree.now.bodies }
 {
     are_types(scope.types)
-        && have_types(scope)
+        && are_below(&scope.functions, scope.types.len())
         && tree.functions.len() == tree.bodies.len()
         && are_codes(tree.bodies.as_slice())
-}
-
-/// Whether the type of each function exists.
-fn have_types(scope: &Scope) -> bool
-    ensures { IsTrue result ↔ All (λ index. index < length scope.now.types.now) scope.now.functions.items }
-{
-    are_below(&scope.functions, scope.types.len())
 }
 
 /// Whether each index is below the size of a space.
@@ -87,6 +79,22 @@ fn has_valid_globals(
             global.kind.kind,
             global.initial.as_slice(),
         ))
+}
+
+/// The segments of tables and those of memories.
+fn has_valid_segments(tree: &Module, scope: &Scope) -> bool
+    ensures { IsTrue result ↔ (All (IsElementAt (length scope.now.tables.items) (length scope.now.functions.items) scope.now.globals.items) tree.now.elements
+        × All (IsDataAt (length scope.now.memories.items) scope.now.globals.items) tree.now.segments) }
+{
+    tree.elements
+        .as_slice()
+        .iter()
+        .all(|segment| is_element(scope, segment))
+        && tree
+            .segments
+            .as_slice()
+            .iter()
+            .all(|segment| is_data(scope, segment))
 }
 
 /// The exports: their indices are in range, and no two have one name.
@@ -190,25 +198,14 @@ fn is_memory(limits: Limits) -> bool
     }
 }
 
-/// Whether the items are one constant of the type, or one imported immutable global of it.
-fn is_initial(imports: &[GlobalType], kind: WasmType, items: &[Instr]) -> bool
-    ensures { IsTrue result ↔ IsInitial imports.now kind items.now }
+/// Whether the items are one constant of the type, or one of these globals that is immutable and of it.
+fn is_initial(globals: &[GlobalType], kind: WasmType, items: &[Instr]) -> bool
+    ensures { IsTrue result ↔ IsInitial globals.now kind items.now }
 {
     match items {
         [Instr::I32Const(_)] => kind == WasmType::I32,
         [Instr::I64Const(_)] => kind == WasmType::I64,
-        [Instr::GlobalGet(x)] => is_constant(imports, *x, kind),
-        _ => false,
-    }
-}
-
-/// Whether the items are one constant i32, or one immutable i32 global.
-fn is_offset(globals: &[GlobalType], items: &[Instr]) -> bool
-    ensures { IsTrue result ↔ IsOffset globals.now items.now }
-{
-    match items {
-        [Instr::I32Const(_)] => true,
-        [Instr::GlobalGet(x)] => is_constant(globals, *x, WasmType::I32),
+        [Instr::GlobalGet(x)] => is_constant(globals, *x, kind),
         _ => false,
     }
 }
@@ -224,45 +221,20 @@ fn is_constant(globals: &[GlobalType], x: u32, kind: WasmType) -> bool
 }
 
 /// Whether the segment's table and functions exist, and its offset is one.
-fn is_element(
-    tables: usize,
-    functions: usize,
-    globals: &[GlobalType],
-    segment: &ElementSegment,
-) -> bool
-    ensures { IsTrue result ↔ IsElementAt tables functions globals.now segment.now }
+#[tactic(auto, using(crate::proofs::ModuleRuleLemmas::initial_i32))]
+fn is_element(scope: &Scope, segment: &ElementSegment) -> bool
+    ensures { IsTrue result ↔ IsElementAt (length scope.now.tables.items) (length scope.now.functions.items) scope.now.globals.items segment.now }
 {
-    (segment.table as usize) < tables
-        && is_offset(globals, segment.offset.as_slice())
-        && are_below(segment.functions.as_slice(), functions)
+    (segment.table as usize) < scope.tables.len()
+        && is_initial(&scope.globals, WasmType::I32, segment.offset.as_slice())
+        && are_below(segment.functions.as_slice(), scope.functions.len())
 }
 
 /// Whether the segment's memory exists, and its offset is one.
-fn is_data(memories: usize, globals: &[GlobalType], segment: &DataSegment) -> bool
-    ensures { IsTrue result ↔ IsDataAt memories globals.now segment.now }
+#[tactic(auto, using(crate::proofs::ModuleRuleLemmas::initial_i32))]
+fn is_data(scope: &Scope, segment: &DataSegment) -> bool
+    ensures { IsTrue result ↔ IsDataAt (length scope.now.memories.items) scope.now.globals.items segment.now }
 {
-    (segment.memory as usize) < memories && is_offset(globals, segment.offset.as_slice())
-}
-
-/// Whether each segment's table and functions exist, and its offset is one.
-fn are_elements(scope: &Scope, segments: &[ElementSegment]) -> bool
-    ensures { IsTrue result ↔ All (IsElementAt (length scope.now.tables.items) (length scope.now.functions.items) scope.now.globals.items) segments.now }
-{
-    let tables = scope.tables.len();
-    let functions = scope.functions.len();
-    let globals = scope.globals.as_slice();
-    segments
-        .iter()
-        .all(|segment| is_element(tables, functions, globals, segment))
-}
-
-/// Whether each segment's memory exists, and its offset is one.
-fn are_data(scope: &Scope, segments: &[DataSegment]) -> bool
-    ensures { IsTrue result ↔ All (IsDataAt (length scope.now.memories.items) scope.now.globals.items) segments.now }
-{
-    let memories = scope.memories.len();
-    let globals = scope.globals.as_slice();
-    segments
-        .iter()
-        .all(|segment| is_data(memories, globals, segment))
+    (segment.memory as usize) < scope.memories.len()
+        && is_initial(&scope.globals, WasmType::I32, segment.offset.as_slice())
 }

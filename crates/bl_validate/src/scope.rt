@@ -1,13 +1,11 @@
 //! What the bodies of a module can name: each space has what is imported first, and then what is defined (WebAssembly
 //! 1.0, section 2.5.1).
-ghost use Rattle.std.specs.Prelude.{◌≡◌, ◌++◌, [], ◌∷◌, map, slice_get, option_and_then, option_copied, replicate, IfOk, OnOk};
+ghost use Rattle.std.specs.Prelude.{◌≡◌, ◌++◌, [], ◌∷◌, map, slice_get, option_and_then, option_copied, IfOk, OnOk};
 ghost use Rattle.bl_wasm.specs.Validity.{locals_of as run_types};
 ghost use Rattle.bl_validate.specs.Scopes.{IsScope, Imports};
 
 use bl_base::NoMemory;
-use bl_wasm::{
-    Code, DefinedGlobal, FuncType, GlobalType, Import, ImportKind, Limits, Module, WasmType,
-};
+use bl_wasm::{Code, FuncType, GlobalType, Import, ImportKind, Limits, Module, WasmType};
 use std::alloc::Global;
 
 /// The spaces of a module.
@@ -47,7 +45,8 @@ impl<'m> Scope<'m> {
             .extend_from_slice(tree.functions.as_slice())?;
         scope.tables.extend_from_slice(tree.tables.as_slice())?;
         scope.memories.extend_from_slice(tree.memories.as_slice())?;
-        push_kinds(&mut scope.globals, tree.globals.as_slice())?;
+        let defined = tree.globals.as_slice().iter();
+        scope.globals.extend(defined.map(|global| global.kind))?;
         Ok(scope)
     }
 
@@ -102,27 +101,8 @@ pub(crate) fn locals_of(
 {
     let mut locals = kind.params.as_slice().to_vec(alloc)?;
     for run in code.locals.as_slice() {
-        push_run(&mut locals, run.count, run.kind)?;
+        let len = locals.len() + run.count as usize;
+        locals.resize(len, run.kind)?;
     }
     Ok(locals)
-}
-
-/// Appends so many locals of one type.
-fn push_run(locals: &mut Vec<WasmType>, count: u32, kind: WasmType) -> Result<(), NoMemory>
-    ensures { OnOk result (locals.new.items ≡ locals.old.items ++ replicate count kind) }
-{
-    for _done in 0..count {
-        locals.push(kind)?;
-    }
-    Ok(())
-}
-
-/// Appends the globals' types.
-fn push_kinds(to: &mut Vec<GlobalType>, globals: &[DefinedGlobal]) -> Result<(), NoMemory>
-    ensures { OnOk result (to.new.items ≡ to.old.items ++ map (λ global. global.kind) globals.now) }
-{
-    for global in globals {
-        to.push(global.kind)?;
-    }
-    Ok(())
 }

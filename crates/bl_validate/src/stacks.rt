@@ -4,10 +4,8 @@ ghost use Rattle.std.specs.Prelude.{◌≡◌, ◌↔◌, ◌++◌, List, [], �
 ghost use Rattle.bl_wasm.specs.{OpenConstructs.then_part, declared.types.WasmType.WasmType};
 ghost use Rattle.bl_wasm.specs.Typing.{Context, Open, opened, taken_by};
 ghost use Rattle.bl_wasm.specs.declared.instruction.Instr.TheVariants as Instr;
-ghost use Rattle.bl_validate.specs.HasEffect.{HasEffect};
 ghost use Rattle.bl_validate.specs.Represents.{Represents, Steps, IsOpen, labels_in, construct_type, nesting_kind};
 
-use crate::effects::Effect;
 use crate::operands::Operands;
 use bl_base::NoMemory;
 use bl_wasm::WasmType;
@@ -85,28 +83,6 @@ impl<'m> Stacks<'m> {
         self.operands.push(types)
     }
 
-    /// Goes over an item of that effect; false where what it takes can't stand there.
-    pub(crate) fn apply(&mut self, effect: Effect<'m>) -> Result<bool, NoMemory>
-        ensures { IfOk result (λ ok. (open_ones : List Open) (to : List WasmType) →
-            (IsTrue ok × Represents self.new open_ones to) ↔ ((from : List WasmType) × HasEffect effect.entry from to × Represents self.old open_ones from)) }
-    {
-        self.operands.apply(effect)
-    }
-
-    /// `drop`.
-    pub(crate) fn drop_one(&mut self) -> bool
-        ensures { (c : Context) → Steps c Instr.Drop self.old result self.new }
-    {
-        self.operands.drop_one()
-    }
-
-    /// `select`.
-    pub(crate) fn select(&mut self) -> Result<bool, NoMemory>
-        ensures { IfOk result (λ ok. (c : Context) → Steps c Instr.Select self.old ok self.new) }
-    {
-        self.operands.select()
-    }
-
     /// Opens a construct, in which its parameters stand; the operands that stand before are below it.
     fn enter(&mut self, alloc: Global, construct: Construct<'m>) -> Result<(), NoMemory>
         ensures { OnOk result ((open_ones : List Open) (s : List WasmType) →
@@ -167,7 +143,7 @@ impl<'m> Stacks<'m> {
         let Some(construct) = self.close() else {
             return Ok(false);
         };
-        if !is_then_part(construct.kind) {
+        if construct.kind != Kind::ThenPart {
             return Ok(false);
         }
         self.enter(
@@ -213,13 +189,9 @@ impl<'m> Stacks<'m> {
     pub(crate) fn is_done(&mut self, results: &[WasmType]) -> bool
         ensures { IsTrue result ↔ Represents self.old [] results.now }
     {
-        self.pop(results) && self.is_bare()
-    }
-
-    /// Whether no construct is open and nothing stands there.
-    fn is_bare(&self) -> bool
-        ensures { IsTrue result ↔ Represents self.now [] [] }
-    {
+        if !self.pop(results) {
+            return false;
+        }
         self.frames.is_empty() && self.operands.may_be_empty()
     }
 }
@@ -236,18 +208,11 @@ impl<'m> Construct<'m> {
     }
 }
 
-/// Whether it is an if up to its `else` or its end.
-fn is_then_part(kind: Kind) -> bool
-    ensures { IsTrue result ↔ (nesting_kind kind ≡ then_part) }
-{
-    matches!(kind, Kind::ThenPart)
-}
-
 /// Whether the construct may end: an if without `else` has equal parameters and results.
 fn may_end(construct: Construct) -> bool
     ensures { IsTrue result ↔ (nesting_kind construct.entry.kind ≡ then_part → construct.entry.params.now ≡ construct.entry.results.now) }
 {
-    !is_then_part(construct.kind) || are_same(construct.params, construct.results)
+    construct.kind != Kind::ThenPart || are_same(construct.params, construct.results)
 }
 
 /// Whether the types are the same.

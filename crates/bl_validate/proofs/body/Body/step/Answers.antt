@@ -1,5 +1,6 @@
+use Rattle.bl_wasm.specs.declared.instruction.Instr.TheVariants as Instr
 use Rattle.bl_validate.specs.Scopes.{seen}
-use Rattle.bl_validate.proofs.ConstructLemmas.{if_ok_from}
+use Rattle.bl_validate.proofs.ConstructLemmas.{works, if_ok_from}
 use Rattle.bl_validate.proofs.body.Body.step.Goals as goal
 
 pub returns-in-Block : goal.returns-in-Block
@@ -18,7 +19,7 @@ pub returns-in-End : goal.returns-in-End
 returns-in-End c = rw c.in-End.is (if_ok_from c.end.result _ _ (λ ok h. h (seen c.args.self.now)) c.end.ensures)
 
 pub returns-in-Drop : goal.returns-in-Drop
-returns-in-Drop c = rw c.in-Drop.is (c.drop_one.ensures (seen c.args.self.now))
+returns-in-Drop c = rw c.in-Drop.is (works (seen c.args.self.now) Instr.Drop c.args.stacks.now c.drop_one.new.self c.drop_one.result (λ _ _. c.drop_one.ensures))
 
 pub returns-in-Select : goal.returns-in-Select
-returns-in-Select c = rw c.in-Select.is (if_ok_from c.select.result _ _ (λ ok h. h (seen c.args.self.now)) c.select.ensures)
+returns-in-Select c = rw c.in-Select.is (if_ok_from c.select.result _ _ (λ ok h. works (seen c.args.self.now) Instr.Select c.args.stacks.now c.select.new.self ok (λ _ _. h)) c.select.ensures)
