@@ -1,20 +1,18 @@
 //! Fetching and predicting.
-ghost use Rattle.std.specs.Prelude.{◌≡◌, ◌≤◌, ◌<◌, ◌++◌, ◌∷◌, [], ℕ, Bool, List, suc, IfErr, IfOk, IsTrue, None, OnErr, OnOk, Some, length};
+ghost use Rattle.std.specs.Prelude.{◌≡◌, Bool, IsTrue, Some, length, suc};
 ghost use Rattle.bl_ops.specs.Access.{is_load};
 ghost use Rattle.bl_program.specs.Layout.{entry_of, param, result as variable_of_result, running};
-ghost use Rattle.bl_program.specs.{Programs.IsCommand, declared.definitions.ProgramParts.ProgramParts};
+ghost use Rattle.bl_program.specs.Programs.{IsCommand};
 ghost use Rattle.bl_seq.specs.Layouts.{IsLayout};
-ghost use Rattle.bl_rob.specs.CallResults.{Steps, front_in, is_enabled, next_command, shown, work_in};
-ghost use Rattle.bl_rob.specs.Machines.{at_position, back, called, ended_at, fetched, grown, moved, register_of, source_of};
+ghost use Rattle.bl_rob.specs.CallResults.{Steps, is_enabled, next_command, shown, work_in};
+ghost use Rattle.bl_rob.specs.Machines.{fetched, moved, register_of, source_of};
 ghost use Rattle.bl_rob.specs.declared.directive.Directive.TheVariants.{Fetch, Predict};
-ghost use Rattle.bl_rob.specs.{declared.directive.Observation.TheVariants.Nothing, declared.directive.StepError.TheVariants.Memory};
-ghost use Rattle.bl_rob.specs.declared.entry.Work.TheVariants.{Assign, Guard, Load, Store};
+ghost use Rattle.bl_rob.specs.declared.entry.Work.TheVariants.{Assign, Load, Store};
 
-use crate::chain::Chain;
-use crate::directive::{End, Observation, StepError};
+use crate::directive::{Observation, StepError};
 use crate::entry::{Entry, LoadKind, Register, Source, Work};
 use crate::machine::Machine;
-use bl_base::{MOST_CALLS, NoMemory, Pos, Trap, Var};
+use bl_base::{MOST_CALLS, NoMemory, Trap, Var};
 use bl_ops::{AccessKind, Op};
 use bl_program::{Command, Mark, Operand};
 use bl_seq::Layout;
@@ -57,15 +55,75 @@ fn moved(protect: bool, depth: u32, var: usize, value: Source) -> Work
     }
 }
 
-/// What a call at a depth becomes.
-fn called(depth: u32) -> Work
-    ensures { (program : ProgramParts) (function position : ℕ) (chain : List ℕ) → depth ≡ suc (length chain)
-        → Some result ≡ work_in (called program function position chain) }
+/// The work of a Set in a frame of that depth.
+fn assignment(
+    layout: &Layout,
+    depth: u32,
+    mark: Mark,
+    op: Op,
+    to: Var,
+    a: Operand,
+    b: Operand,
+    c: Operand,
+) -> Work
+    requires { IsLayout layout.now }
+    ensures { result ≡ Assign mark.protect op (register_of layout.now.parts.now depth to.0) (source_of layout.now.parts.now depth a)
+        (source_of layout.now.parts.now depth b) (source_of layout.now.parts.now depth c) }
 {
-    if depth < MOST_CALLS {
-        Work::Nop
-    } else {
-        Work::Fail(Trap::StackExhausted)
+    Work::Assign {
+        protect: mark.protect,
+        op,
+        to: register_of(layout, depth, to),
+        a: source_of(layout, depth, a),
+        b: source_of(layout, depth, b),
+        c: source_of(layout, depth, c),
+    }
+}
+
+/// The work of a Load in a frame of that depth.
+fn load_of(
+    layout: &Layout,
+    depth: u32,
+    mark: Mark,
+    kind: AccessKind,
+    memory: u32,
+    to: Var,
+    offset: u32,
+    address: Operand,
+) -> Work
+    requires layout { IsLayout layout.now }
+    requires load { IsTrue (is_load kind) }
+    ensures { result ≡ Load mark.protect kind memory (register_of layout.now.parts.now depth to.0) offset (source_of layout.now.parts.now depth address) }
+{
+    Work::Load {
+        protect: mark.protect,
+        kind: LoadKind::of(kind),
+        memory,
+        to: register_of(layout, depth, to),
+        offset,
+        address: source_of(layout, depth, address),
+    }
+}
+
+/// The work of a Store in a frame of that depth.
+fn store_of(
+    layout: &Layout,
+    depth: u32,
+    kind: AccessKind,
+    memory: u32,
+    offset: u32,
+    address: Operand,
+    value: Operand,
+) -> Work
+    requires { IsLayout layout.now }
+    ensures { result ≡ Store kind memory offset (source_of layout.now.parts.now depth address) (source_of layout.now.parts.now depth value) }
+{
+    Work::Store {
+        kind,
+        memory,
+        offset,
+        address: source_of(layout, depth, address),
+        value: source_of(layout, depth, value),
     }
 }
 
@@ -125,8 +183,11 @@ impl Machine {
         let Some(work) = self.work_of(layout, command) else {
             return Err(StepError::NotEnabled);
         };
-        self.push(work)?;
-        match self.advance(layout, command) {
+        self.entries.push(Entry {
+            position: self.front.position,
+            work,
+        })?;
+        match self.front.advance(layout, command) {
             Ok(()) => Ok(Observation::Nothing),
             Err(NoMemory) => {
                 self.entries.pop();
@@ -135,25 +196,13 @@ impl Machine {
         }
     }
 
-    /// Appends an entry of the command at the front end.
-    fn push(&mut self, work: Work) -> Result<(), NoMemory>
-        ensures ok { OnOk result (shown self.new ≡ record (shown self.old)
-            { buffer = self.old.entries.items ++ (record { position = self.old.front.position; work = work } ∷ []) }) }
-        ensures err { OnErr result (shown self.new ≡ shown self.old) }
-    {
-        self.entries.push(Entry {
-            position: self.front.position,
-            work,
-        })?;
-        Ok(())
-    }
-
     /// What the command at the front end becomes; None where it is a Test.
     fn work_of(&self, layout: &Layout, command: Command) -> Option<Work>
         requires layout { IsLayout layout.now }
         requires command { IsCommand command }
         ensures { result ≡ work_in (fetched layout.now.parts.now self.now.front.position self.now.front.chain (Some command)) }
     {
+        let depth = self.front.chain.depth();
         match command {
             Command::Set {
                 mark,
@@ -162,7 +211,7 @@ impl Machine {
                 a,
                 b,
                 c,
-            } => Some(self.assignment(layout, mark, op, to, a, b, c)),
+            } => Some(assignment(layout, depth, mark, op, to, a, b, c)),
             Command::Load {
                 mark,
                 kind,
@@ -170,14 +219,14 @@ impl Machine {
                 to,
                 offset,
                 address,
-            } => Some(self.load_of(layout, mark, kind, memory, to, offset, address)),
+            } => Some(load_of(layout, depth, mark, kind, memory, to, offset, address)),
             Command::Store {
                 kind,
                 memory,
                 offset,
                 address,
                 value,
-            } => Some(self.store_of(layout, kind, memory, offset, address, value)),
+            } => Some(store_of(layout, depth, kind, memory, offset, address, value)),
             Command::Test { .. } => None,
             Command::Jump { .. } | Command::Ret => Some(Work::Nop),
             Command::Arg {
@@ -186,89 +235,10 @@ impl Machine {
                 index,
                 value,
             } => Some(self.argument(layout, mark, function, index, value)),
-            Command::Call { .. } => Some(called(self.front.chain.depth())),
+            Command::Call { .. } if depth < MOST_CALLS => Some(Work::Nop),
+            Command::Call { .. } => Some(Work::Fail(Trap::StackExhausted)),
             Command::Out { mark, index, value } => Some(self.output(layout, mark, index, value)),
             Command::Trap { kind } => Some(Work::Fail(kind)),
-        }
-    }
-
-    /// The work of a Set.
-    fn assignment(
-        &self,
-        layout: &Layout,
-        mark: Mark,
-        op: Op,
-        to: Var,
-        a: Operand,
-        b: Operand,
-        c: Operand,
-    ) -> Work
-        requires { IsLayout layout.now }
-        ensures { result ≡ Assign mark.protect op (register_of layout.now.parts.now (suc (length self.now.front.chain)) to.0)
-            (source_of layout.now.parts.now (suc (length self.now.front.chain)) a)
-            (source_of layout.now.parts.now (suc (length self.now.front.chain)) b)
-            (source_of layout.now.parts.now (suc (length self.now.front.chain)) c) }
-    {
-        let depth = self.front.chain.depth();
-        Work::Assign {
-            protect: mark.protect,
-            op,
-            to: register_of(layout, depth, to),
-            a: source_of(layout, depth, a),
-            b: source_of(layout, depth, b),
-            c: source_of(layout, depth, c),
-        }
-    }
-
-    /// The work of a Load.
-    fn load_of(
-        &self,
-        layout: &Layout,
-        mark: Mark,
-        kind: AccessKind,
-        memory: u32,
-        to: Var,
-        offset: u32,
-        address: Operand,
-    ) -> Work
-        requires layout { IsLayout layout.now }
-        requires load { IsTrue (is_load kind) }
-        ensures { result ≡ Load mark.protect kind memory (register_of layout.now.parts.now (suc (length self.now.front.chain)) to.0) offset
-            (source_of layout.now.parts.now (suc (length self.now.front.chain)) address) }
-    {
-        let depth = self.front.chain.depth();
-        Work::Load {
-            protect: mark.protect,
-            kind: LoadKind::of(kind),
-            memory,
-            to: register_of(layout, depth, to),
-            offset,
-            address: source_of(layout, depth, address),
-        }
-    }
-
-    /// The work of a Store.
-    fn store_of(
-        &self,
-        layout: &Layout,
-        kind: AccessKind,
-        memory: u32,
-        offset: u32,
-        address: Operand,
-        value: Operand,
-    ) -> Work
-        requires { IsLayout layout.now }
-        ensures { result ≡ Store kind memory offset
-            (source_of layout.now.parts.now (suc (length self.now.front.chain)) address)
-            (source_of layout.now.parts.now (suc (length self.now.front.chain)) value) }
-    {
-        let depth = self.front.chain.depth();
-        Work::Store {
-            kind,
-            memory,
-            offset,
-            address: source_of(layout, depth, address),
-            value: source_of(layout, depth, value),
         }
     }
 
@@ -304,71 +274,6 @@ impl Machine {
         moved(mark.protect, depth - 1, var, value)
     }
 
-    /// Moves the front end to where the command there goes; a Test leaves it. A refusal leaves the machine as it was.
-    fn advance(&mut self, layout: &Layout, command: Command) -> Result<(), NoMemory>
-        requires layout { IsLayout layout.now }
-        requires running { self.old.front.end ≡ None }
-        requires within { self.old.front.position < length layout.now.parts.now.commands }
-        ensures ok { OnOk result (shown self.new ≡ record (shown self.old)
-            { front = front_in self.old.front (fetched layout.now.parts.now self.old.front.position self.old.front.chain (Some command)) }) }
-        ensures err { OnErr result (shown self.new ≡ shown self.old) }
-    {
-        let position = self.front.position;
-        match command {
-            Command::Jump { to } => self.go_to(to.0),
-            Command::Call { function } => return self.call(layout, function),
-            Command::Ret => self.leave(),
-            Command::Trap { kind } => self.end_with(End::Trapped(kind)),
-            Command::Test { .. } => {}
-            Command::Set { .. }
-            | Command::Load { .. }
-            | Command::Store { .. }
-            | Command::Arg { .. }
-            | Command::Out { .. } => self.go_to(position + 1),
-        }
-        Ok(())
-    }
-
-    /// Moves the front end to a position.
-    fn go_to(&mut self, position: u32)
-        requires { self.old.front.end ≡ None }
-        ensures { shown self.new ≡ record (shown self.old) { front = at_position position self.old.front.chain } }
-    {
-        self.front.go_to(position);
-    }
-
-    /// Moves the front end to where a return goes.
-    fn leave(&mut self)
-        requires { self.old.front.end ≡ None }
-        ensures { shown self.new ≡ record (shown self.old) { front = back self.old.front.position self.old.front.chain } }
-    {
-        self.front.leave();
-    }
-
-    /// Ends the front end.
-    fn end_with(&mut self, end: End)
-        ensures { shown self.new ≡ record (shown self.old) { front = ended_at self.old.front.position self.old.front.chain end } }
-    {
-        self.front.end_with(end);
-    }
-
-    /// Moves the front end into a function, or ends it where too many calls are open.
-    fn call(&mut self, layout: &Layout, function: u32) -> Result<(), NoMemory>
-        requires layout { IsLayout layout.now }
-        requires running { self.old.front.end ≡ None }
-        requires within { self.old.front.position < length layout.now.parts.now.commands }
-        ensures ok { OnOk result (shown self.new ≡ record (shown self.old)
-            { front = front_in self.old.front (called layout.now.parts.now function self.old.front.position self.old.front.chain) }) }
-        ensures err { OnErr result (shown self.new ≡ shown self.old) }
-    {
-        if self.front.chain.depth() < MOST_CALLS {
-            self.front.call(entry_of(layout, function))
-        } else {
-            self.end_with(End::Trapped(Trap::StackExhausted));
-            Ok(())
-        }
-    }
-
     /// Fetches the Test at the front end as a guard that predicts where it goes.
     pub fn predict(
         &mut self,
@@ -385,33 +290,17 @@ impl Machine {
         };
         let cond = source_of(layout, self.front.chain.depth(), cond);
         let chain = self.front.chain.copied(alloc)?;
-        if predicted {
-            return self.guess(cond, true, yes, no, chain);
-        }
-        self.guess(cond, false, no, yes, chain)
-    }
-
-    /// Appends a guard with that condition and prediction, and goes to where that goes. A refusal leaves the machine as it was.
-    fn guess(
-        &mut self,
-        cond: Source,
-        predicted: bool,
-        taken: Pos,
-        other: Pos,
-        chain: Chain,
-    ) -> Result<Observation, StepError>
-        requires { self.old.front.end ≡ None }
-        ensures ok { IfOk result (λ observation. (observation ≡ Nothing)
-            × (shown self.new ≡ grown (shown self.old) (Guard cond predicted other.0 chain) (at_position taken.0 self.old.front.chain))) }
-        ensures err { IfErr result (λ error. (error ≡ Memory) × (shown self.new ≡ shown self.old)) }
-    {
-        self.push(Work::Guard {
-            cond,
-            predicted,
-            other: other.0,
-            chain,
+        let (taken, other) = if predicted { (yes, no) } else { (no, yes) };
+        self.entries.push(Entry {
+            position: self.front.position,
+            work: Work::Guard {
+                cond,
+                predicted,
+                other: other.0,
+                chain,
+            },
         })?;
-        self.go_to(taken.0);
+        self.front.position = taken.0;
         Ok(Observation::Nothing)
     }
 }

@@ -1,11 +1,15 @@
 //! The front end.
-ghost use Rattle.std.specs.Prelude.{◌≡◌, ◌+◌, ◌<◌, ◌^◌, ◌∷◌, None, Some, suc, length, OnOk, OnErr};
-ghost use Rattle.bl_base.specs.Quantity.{most_calls};
-ghost use Rattle.bl_rob.specs.Machines.{at_position, back, ended_at};
+ghost use Rattle.std.specs.Prelude.{◌≡◌, ◌<◌, None, Some, length, OnOk, OnErr};
+ghost use Rattle.bl_seq.specs.Layouts.{IsLayout};
+ghost use Rattle.bl_rob.specs.CallResults.{front_in};
+ghost use Rattle.bl_rob.specs.Machines.{called, fetched};
 
 use crate::chain::Chain;
 use crate::directive::End;
-use bl_base::NoMemory;
+use crate::fetch::entry_of;
+use bl_base::{MOST_CALLS, NoMemory, Trap};
+use bl_program::Command;
+use bl_seq::Layout;
 use std::alloc::Global;
 
 /// Where the next command is fetched.
@@ -20,51 +24,47 @@ pub struct Front {
 }
 
 impl Front {
-    /// Goes to a position.
-    pub fn go_to(&mut self, position: u32)
-        requires { self.old.end ≡ None }
-        ensures { self.new ≡ at_position position self.old.chain }
-    {
-        self.position = position;
-    }
-
-    /// Goes back to a position, with the calls that were open there.
-    pub fn go_back(&mut self, position: u32, chain: Chain)
-        ensures { self.new ≡ at_position position chain }
-    {
-        self.position = position;
-        self.chain = chain;
-        self.end = None;
-    }
-
-    /// Goes to a function's entry, to return to the next position.
-    pub fn call(&mut self, entry: u32) -> Result<(), NoMemory>
+    /// Goes to where the command at its position goes. A Test leaves it; a Trap ends it, and so do a return where no call is open and a call
+    /// where too many are. A refusal leaves it as it was.
+    pub fn advance(&mut self, layout: &Layout, command: Command) -> Result<(), NoMemory>
+        requires layout { IsLayout layout.now }
         requires running { self.old.end ≡ None }
-        requires few { suc (length self.old.chain) < most_calls }
-        requires position { self.old.position + 1 < 2 ^ 32 }
-        ensures ok { OnOk result (self.new ≡ at_position entry (suc self.old.position ∷ self.old.chain)) }
+        requires within { self.old.position < length layout.now.parts.now.commands }
+        ensures ok { OnOk result (self.new ≡ front_in self.old (fetched layout.now.parts.now self.old.position self.old.chain (Some command))) }
         ensures err { OnErr result (self.new ≡ self.old) }
     {
-        self.chain.open(self.position + 1)?;
-        self.position = entry;
+        match command {
+            Command::Jump { to } => self.position = to.0,
+            Command::Call { function } => return self.call(layout, function),
+            Command::Ret => match self.chain.close() {
+                Some(caller) => self.position = caller,
+                None => self.end = Some(End::Returned),
+            },
+            Command::Trap { kind } => self.end = Some(End::Trapped(kind)),
+            Command::Test { .. } => {}
+            Command::Set { .. }
+            | Command::Load { .. }
+            | Command::Store { .. }
+            | Command::Arg { .. }
+            | Command::Out { .. } => self.position += 1,
+        }
         Ok(())
     }
 
-    /// Returns; where no call is open, the front end has ended.
-    pub fn leave(&mut self)
-        requires { self.old.end ≡ None }
-        ensures { self.new ≡ back self.old.position self.old.chain }
+    /// Goes to a function's entry, to return to the next position; ends where too many calls are open.
+    fn call(&mut self, layout: &Layout, function: u32) -> Result<(), NoMemory>
+        requires layout { IsLayout layout.now }
+        requires running { self.old.end ≡ None }
+        requires within { self.old.position < length layout.now.parts.now.commands }
+        ensures ok { OnOk result (self.new ≡ front_in self.old (called layout.now.parts.now function self.old.position self.old.chain)) }
+        ensures err { OnErr result (self.new ≡ self.old) }
     {
-        match self.chain.close() {
-            Some(caller) => self.go_to(caller),
-            None => self.end_with(End::Returned),
+        if self.chain.depth() < MOST_CALLS {
+            self.chain.open(self.position + 1)?;
+            self.position = entry_of(layout, function);
+        } else {
+            self.end = Some(End::Trapped(Trap::StackExhausted));
         }
-    }
-
-    /// Ends.
-    pub fn end_with(&mut self, end: End)
-        ensures { self.new ≡ ended_at self.old.position self.old.chain end }
-    {
-        self.end = Some(end);
+        Ok(())
     }
 }

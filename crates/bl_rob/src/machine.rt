@@ -1,9 +1,9 @@
 //! The machine between two steps, and what executing an entry of it comes to.
-ghost use Rattle.std.specs.Prelude.{◌≡◌, ◌≤◌, ◌<◌, ◌^◌, IfOk, Some, length};
+ghost use Rattle.std.specs.Prelude.{◌≡◌, ◌≤◌, ◌<◌, ◌^◌, IfOk, length};
 ghost use Rattle.bl_program.specs.{Outcomes.IsStart, Steps.effective};
 ghost use Rattle.bl_seq.specs.Layouts.{IsLayout};
 ghost use Rattle.bl_rob.specs.CallResults.{act_at, shown};
-ghost use Rattle.bl_rob.specs.Machines.{act, assigns, frees, guards, has_guard, has_store, judges, loads, opening, stores, valued, visible_of};
+ghost use Rattle.bl_rob.specs.Machines.{act, assigns, frees, guards, has_store, judges, loads, opening, stores, valued, visible_of};
 
 use crate::chain::Chain;
 use crate::directive::Observation;
@@ -141,7 +141,7 @@ impl Machine {
                 address,
             } => {
                 let address = visible_of(&self.registers, before, *address);
-                self.load(
+                self.load_behind(
                     layout, before, *protect, kind, *memory, *to, *offset, address,
                 )
             }
@@ -186,36 +186,20 @@ impl Machine {
         let Some(c) = visible_of(&self.registers, before, c) else {
             return Act::Idle;
         };
-        assign(before, protect, op, to, a, b, c)
-    }
-
-    /// A pending store behind those entries.
-    fn store_behind(
-        &self,
-        layout: &Layout,
-        before: &[Entry],
-        kind: AccessKind,
-        memory: u32,
-        offset: u32,
-        address: Source,
-        value: Source,
-    ) -> Act
-        requires layout { IsLayout layout.now }
-        requires few { length before.now ≤ 64 }
-        ensures { result ≡ stores layout.now.parts.now (guards before.now) kind memory offset
-            (visible_of (shown self.now).registers before.now address) (visible_of (shown self.now).registers before.now value) }
-    {
-        let Some(address) = visible_of(&self.registers, before, address) else {
-            return Act::Idle;
+        let work = valued(protect, to, eval(op, a, b, c));
+        if !op.is_division() {
+            return Act::Becomes(work, Observation::Nothing);
+        }
+        let observation = Observation::Divide {
+            a,
+            b,
+            guards: guards(before),
         };
-        let Some(value) = visible_of(&self.registers, before, value) else {
-            return Act::Idle;
-        };
-        store(layout, before, kind, memory, offset, address, value)
+        Act::Becomes(work, observation)
     }
 
     /// A pending load behind those entries, where its address is visible or isn't.
-    fn load(
+    fn load_behind(
         &self,
         layout: &Layout,
         before: &[Entry],
@@ -245,51 +229,42 @@ impl Machine {
             },
         )
     }
-}
 
-/// A pending assignment behind those entries, with operands that are visible.
-fn assign(before: &[Entry], protect: bool, op: Op, to: Register, a: u64, b: u64, c: u64) -> Act
-    requires { length before.now ≤ 64 }
-    ensures { result ≡ assigns (guards before.now) protect op to (Some a) (Some b) (Some c) }
-{
-    let work = valued(protect, to, eval(op, a, b, c));
-    if !op.is_division() {
-        return Act::Becomes(work, Observation::Nothing);
+    /// A pending store behind those entries.
+    fn store_behind(
+        &self,
+        layout: &Layout,
+        before: &[Entry],
+        kind: AccessKind,
+        memory: u32,
+        offset: u32,
+        address: Source,
+        value: Source,
+    ) -> Act
+        requires layout { IsLayout layout.now }
+        requires few { length before.now ≤ 64 }
+        ensures { result ≡ stores layout.now.parts.now (guards before.now) kind memory offset
+            (visible_of (shown self.now).registers before.now address) (visible_of (shown self.now).registers before.now value) }
+    {
+        let Some(address) = visible_of(&self.registers, before, address) else {
+            return Act::Idle;
+        };
+        let Some(value) = visible_of(&self.registers, before, value) else {
+            return Act::Idle;
+        };
+        let from = effective(layout, memory, offset, address);
+        Act::Becomes(
+            Work::Ready {
+                kind,
+                memory,
+                offset,
+                address,
+                value,
+            },
+            Observation::Write {
+                address: from as u64,
+                guards: guards(before),
+            },
+        )
     }
-    let observation = Observation::Divide {
-        a,
-        b,
-        guards: guards(before),
-    };
-    Act::Becomes(work, observation)
-}
-
-/// A pending store behind those entries, with an address and a value that are visible.
-fn store(
-    layout: &Layout,
-    before: &[Entry],
-    kind: AccessKind,
-    memory: u32,
-    offset: u32,
-    address: u64,
-    value: u64,
-) -> Act
-    requires layout { IsLayout layout.now }
-    requires few { length before.now ≤ 64 }
-    ensures { result ≡ stores layout.now.parts.now (guards before.now) kind memory offset (Some address) (Some value) }
-{
-    let from = effective(layout, memory, offset, address);
-    Act::Becomes(
-        Work::Ready {
-            kind,
-            memory,
-            offset,
-            address,
-            value,
-        },
-        Observation::Write {
-            address: from as u64,
-            guards: guards(before),
-        },
-    )
 }

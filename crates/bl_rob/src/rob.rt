@@ -3,7 +3,6 @@ ghost use Rattle.std.specs.Prelude.{◌≡◌, ◌≤◌, IfOk, slice_get, slice
 ghost use Rattle.bl_program.specs.Outcomes.{IsStart};
 ghost use Rattle.bl_rob.specs.CallResults.{IsEntryKind, StepsBy, IsRunOf, is_enabled_by, outcome_in, position_of, shown};
 ghost use Rattle.bl_rob.specs.Machines.{end_in, opening};
-ghost use Rattle.bl_rob.specs.declared.directive.Directive.TheVariants.{Exec, Fetch, Predict, Retire};
 
 use crate::directive::{Directive, End, Kind, StepError};
 use crate::loads::{Loads, Plain, told};
@@ -65,39 +64,13 @@ impl<'p, const W: usize, P: Loads> Rob<'p, W, P> {
         ensures step { StepsBy P.rules W self.old.program d (shown self.old.machine) result (shown self.new.machine) }
     {
         match d {
-            Directive::Fetch => self.fetch(),
-            Directive::Predict(predicted) => self.predict(alloc, predicted),
-            Directive::Exec(n) => self.exec(n),
-            Directive::Retire => self.retire(alloc),
+            Directive::Fetch => told::<P>(self.machine.fetch(&self.layout, W)),
+            Directive::Predict(predicted) => {
+                told::<P>(self.machine.predict(alloc, &self.layout, W, predicted))
+            }
+            Directive::Exec(n) => P::exec(&mut self.machine, &self.layout, n as usize),
+            Directive::Retire => told::<P>(self.machine.retire(alloc, &self.layout)),
         }
-    }
-
-    fn fetch(&mut self) -> Result<P::Sight, StepError>
-        ensures same { self.new.program ≡ self.old.program }
-        ensures step { StepsBy P.rules W self.old.program Fetch (shown self.old.machine) result (shown self.new.machine) }
-    {
-        told::<P>(self.machine.fetch(&self.layout, W))
-    }
-
-    fn predict(&mut self, alloc: Global, predicted: bool) -> Result<P::Sight, StepError>
-        ensures same { self.new.program ≡ self.old.program }
-        ensures step { StepsBy P.rules W self.old.program (Predict predicted) (shown self.old.machine) result (shown self.new.machine) }
-    {
-        told::<P>(self.machine.predict(alloc, &self.layout, W, predicted))
-    }
-
-    fn exec(&mut self, n: u32) -> Result<P::Sight, StepError>
-        ensures same { self.new.program ≡ self.old.program }
-        ensures step { StepsBy P.rules W self.old.program (Exec n) (shown self.old.machine) result (shown self.new.machine) }
-    {
-        P::exec(&mut self.machine, &self.layout, n as usize)
-    }
-
-    fn retire(&mut self, alloc: Global) -> Result<P::Sight, StepError>
-        ensures same { self.new.program ≡ self.old.program }
-        ensures step { StepsBy P.rules W self.old.program Retire (shown self.old.machine) result (shown self.new.machine) }
-    {
-        told::<P>(self.machine.retire(alloc, &self.layout))
     }
 
     /// How the machine has ended; None where it hasn't.
@@ -111,21 +84,24 @@ impl<'p, const W: usize, P: Loads> Rob<'p, W, P> {
     pub fn retired(&self) -> u64
         ensures { result ≡ (shown self.now.machine).retired }
     {
-        self.machine.retired()
+        self.machine.retired
     }
 
     /// What a variable holds at a depth.
     pub fn register(&self, depth: u32, var: Var) -> u64
         ensures { result ≡ (shown self.now.machine).registers depth var.0 }
     {
-        self.machine.register(depth, var)
+        self.machine.registers.at(depth as usize, var.0 as usize)
     }
 
     /// The byte at a place of the space of all memories; 0 past its end.
     pub fn byte(&self, address: u64) -> u8
         ensures { result ≡ slice_index (shown self.now.machine).space address }
     {
-        self.machine.byte(address)
+        match self.machine.space.as_slice().get(address as usize) {
+            Some(byte) => *byte,
+            None => 0,
+        }
     }
 
     /// The outcome; None exactly where the machine hasn't ended.
@@ -151,13 +127,19 @@ impl<'p, const W: usize, P: Loads> Rob<'p, W, P> {
     pub fn front(&self) -> Option<Pos>
         ensures { option_map (λ position. position.0) result ≡ position_of (shown self.now.machine).front }
     {
-        self.machine.position()
+        match self.machine.front.end {
+            Some(_) => None,
+            None => Some(Pos(self.machine.front.position)),
+        }
     }
 
     /// The position and the kind of an entry; None exactly where the buffer has none of that index. Takes no memory.
     pub fn entry(&self, n: u32) -> Option<(Pos, Kind)>
         ensures { IsEntryKind (slice_get (shown self.now.machine).buffer n) result }
     {
-        self.machine.entry(n)
+        match self.machine.entries.get(n as usize) {
+            Some(entry) => Some((Pos(entry.position), entry.work.kind())),
+            None => None,
+        }
     }
 }

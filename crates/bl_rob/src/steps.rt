@@ -1,16 +1,15 @@
 //! Executing and retiring.
-ghost use Rattle.std.specs.Prelude.{◌≡◌, ◌≤◌, ◌<◌, ◌^◌, ℕ, [], suc, IfSome, IsTrue, OnErr, OnOk, Some, drop, length, slice_get, take};
+ghost use Rattle.std.specs.Prelude.{◌≡◌, ◌≤◌, ◌<◌, ◌^◌, ℕ, suc, IfSome, IsTrue, OnErr, OnOk, Some, drop, length, slice_get};
 ghost use Rattle.bl_program.specs.{Steps.stored, Steps.written, declared.definitions.ProgramParts.ProgramParts};
 ghost use Rattle.bl_seq.specs.Layouts.{IsLayout};
 ghost use Rattle.bl_rob.specs.CallResults.{Executes, Steps, is_enabled, shown, rolled_back_at};
 ghost use Rattle.bl_rob.specs.{Effects.effect_of, Effects.first_effect, declared.entry.Entry.Entry};
-ghost use Rattle.bl_rob.specs.Machines.{at_position, become, ended_at, is_guard, without};
+ghost use Rattle.bl_rob.specs.Machines.{become, is_guard, without};
 ghost use Rattle.bl_rob.specs.declared.directive.Directive.TheVariants.{Exec, Retire};
-ghost use Rattle.bl_rob.specs.declared.directive.End.TheVariants as ending;
 
-use crate::chain::Chain;
 use crate::directive::{End, Observation, StepError};
 use crate::entry::{Act, Entry, Register, Work};
+use crate::front::Front;
 use crate::machine::{Machine, effective};
 use bl_base::{NoMemory, Trap};
 use bl_ops::AccessKind;
@@ -113,10 +112,14 @@ impl Machine {
         requires within { n < length self.old.entries.items }
         ensures { shown self.new ≡ rolled_back_at n (shown self.old) (slice_get self.old.entries.items n) }
     {
-        self.drop_behind(n);
+        self.entries.truncate(n + 1);
         let guard = mem::replace(&mut self.entries[n].work, Work::Nop);
         if let Work::Guard { other, chain, .. } = guard {
-            self.go_back(other, chain);
+            self.front = Front {
+                position: other,
+                chain,
+                end: None,
+            };
         }
     }
 
@@ -135,21 +138,6 @@ impl Machine {
         ensures { (most : ℕ) (program : ProgramParts) → result ≡ is_enabled most program (shown self.now) Retire }
     {
         self.first_effect().is_some()
-    }
-
-    /// Drops all entries behind one.
-    fn drop_behind(&mut self, n: usize)
-        requires { n < length self.old.entries.items }
-        ensures { shown self.new ≡ record (shown self.old) { buffer = take (suc n) self.old.entries.items } }
-    {
-        self.entries.truncate(n + 1);
-    }
-
-    /// Moves the front end back to a position, with the calls that were open there.
-    fn go_back(&mut self, position: u32, chain: Chain)
-        ensures { shown self.new ≡ record (shown self.old) { front = at_position position chain } }
-    {
-        self.front.go_back(position, chain);
     }
 
     /// Retires the oldest entry.
@@ -174,7 +162,9 @@ impl Machine {
                 value,
             } => self.store(kind, effective(layout, memory, offset, address), value),
             Effect::Fail(kind) => {
-                self.fail(kind, retired);
+                self.entries.clear();
+                self.front.end = Some(End::Trapped(kind));
+                self.retired = retired;
                 return Ok(Observation::Fail);
             }
         }
@@ -206,16 +196,6 @@ impl Machine {
         ensures { shown self.new ≡ without (shown self.old) (drop 1 self.old.entries.items) }
     {
         self.entries.remove(0);
-        self.retired = retired;
-    }
-
-    /// Ends the machine by a trap, where so many entries were retired with it.
-    fn fail(&mut self, kind: Trap, retired: u64)
-        requires { retired ≡ suc self.old.retired }
-        ensures { shown self.new ≡ record (without (shown self.old) []) { front = ended_at self.old.front.position self.old.front.chain (ending.Trapped kind) } }
-    {
-        self.entries.clear();
-        self.front.end_with(End::Trapped(kind));
         self.retired = retired;
     }
 }

@@ -2,7 +2,7 @@
 ghost use Rattle.std.specs.Prelude.{◌≡◌, ◌≤◌, length};
 ghost use Rattle.bl_seq.specs.RegisterTrees.{register_at};
 ghost use Rattle.bl_rob.specs.LastWriters.{is_target, target_of, value_of};
-ghost use Rattle.bl_rob.specs.Machines.{guards, has_guard, has_store, is_at, is_guard, is_store, visible, visible_of};
+ghost use Rattle.bl_rob.specs.Machines.{guards, has_guard, has_store, is_at, is_guard, visible, visible_of};
 
 use crate::entry::{Entry, Register, Source, Work};
 use bl_seq::Registers;
@@ -38,13 +38,6 @@ impl Work {
             Work::Done { value, .. } => Some(*value),
             _ => None,
         }
-    }
-
-    /// Whether it stores, or will.
-    fn is_store(&self) -> bool
-        ensures { result ≡ is_store self.now }
-    {
-        matches!(self, Work::Store { .. } | Work::Ready { .. })
     }
 
     /// Whether it is a guess that wasn't judged yet.
@@ -85,7 +78,7 @@ pub fn has_store(entries: &[Entry]) -> bool
     ensures { result ≡ has_store entries.now }
 {
     for entry in entries {
-        if entry.work.is_store() {
+        if matches!(entry.work, Work::Store { .. } | Work::Ready { .. }) {
             return true;
         }
     }
