@@ -67,7 +67,7 @@ pub fn least_under(
     ensures refused { IfErr result (IsUnderError (asked role iface.now program.now) program.now) }
 {
     let graph = graph(alloc, program)?;
-    let asked = asked_of(alloc, program, role, iface)?;
+    let asked = asked_of(alloc, role, program, iface)?;
     let first = first_given(alloc, program, &graph, &asked)?;
     if let Some(position) = first {
         return Err(UnderError::Sink(position));

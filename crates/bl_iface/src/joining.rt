@@ -1,26 +1,22 @@
 //! Two programs joined.
-ghost use Rattle.std.specs.Prelude.{◌≡◌, ◌++◌, ◌+◌, ◌<◌, ◌≤◌, ◌^◌, IfOk, IfErr, OnOk, drop, length, map};
-ghost use Rattle.bl_program.specs.{Layout.first_of, Layout.statics, Programs.IsProgram, Rules.IsWellFormed, Layout.AreValues};
+ghost use Rattle.std.specs.Prelude.{◌≡◌, ◌++◌, ◌+◌, ◌<◌, ◌≤◌, ◌^◌, IfOk, IfErr, OnOk, length, map};
+ghost use Rattle.bl_program.specs.{Layout.first_of, Layout.statics, Programs.IsProgram, Rules.IsWellFormed};
 ghost use Rattle.bl_iface.specs.{Answers.JoinAnswers, Answers.StandsAgainst, InterfaceFunctions.AreTargets, InterfaceFunctions.Matches};
-ghost use Rattle.bl_iface.specs.JoinedProgram.{CanJoin, client_numbers, client_shift, demands_of, joined, kept as exports_kept, library_numbers, library_shift, moved_export, moved_weight, renamed};
+ghost use Rattle.bl_iface.specs.JoinedProgram.{CanJoin, client_shift, demands_of, joined, kept as exports_kept, library_shift, moved_export, moved_weight};
 ghost use Rattle.bl_iface.specs.PartNumbers.{LeadsTo};
 
-use crate::copies::{
-    both, kept_exports, push_all, push_exports, push_functions, push_globals, push_memories,
-    push_results, push_weights,
-};
+use crate::copies::{Copies, both, copied, kept_exports, push_globals, push_results};
 use crate::error::JoinError;
 use crate::iface::Iface;
 use crate::limits::{first_over, sums, vars_of};
 use crate::matching::matched;
 use crate::numbers::Numbers;
 use crate::obstacles::{first_taken, first_unlike};
-use crate::shift::Shift;
+use crate::shift::{Shift, moved_position};
 use crate::tables::goals_of;
 use bl_base::{List, NoMemory};
 use bl_program::{
-    Command, Demand, ExportDef, FIRST_ENTRY, FunctionDef, MemoryDef, ProgramParts, SiteWeight,
-    WellFormed, firsts_of,
+    Command, Demand, ExportDef, FIRST_ENTRY, ProgramParts, SiteWeight, WellFormed, firsts_of,
 };
 use std::alloc::Global;
 
@@ -128,8 +124,8 @@ fn joined_parts(
     let commands = commands_of(alloc, client, library, iface, goals)?;
     Ok(ProgramParts {
         globals: both(alloc, ours.globals.as_slice(), theirs.globals.as_slice())?,
-        memories: memories_of(alloc, ours.memories.as_slice(), theirs.memories.as_slice())?,
-        functions: functions_of(
+        memories: both(alloc, ours.memories.as_slice(), theirs.memories.as_slice())?,
+        functions: both(
             alloc,
             ours.functions.as_slice(),
             theirs.functions.as_slice(),
@@ -139,34 +135,6 @@ fn joined_parts(
         demands: demands_of(alloc, client, library)?,
         weights: weights_of(alloc, client, library)?,
     })
-}
-
-/// The memories of both.
-fn memories_of(
-    alloc: Global,
-    ours: &[MemoryDef],
-    theirs: &[MemoryDef],
-) -> Result<List<MemoryDef>, NoMemory>
-    ensures { IfOk result (λ memories. memories ≡ ours.now ++ theirs.now) }
-{
-    let mut memories = List::new(alloc);
-    push_memories(alloc, &mut memories, ours)?;
-    push_memories(alloc, &mut memories, theirs)?;
-    Ok(memories)
-}
-
-/// The functions of both.
-fn functions_of(
-    alloc: Global,
-    ours: &[FunctionDef],
-    theirs: &[FunctionDef],
-) -> Result<List<FunctionDef>, NoMemory>
-    ensures { IfOk result (λ functions. functions ≡ ours.now ++ theirs.now) }
-{
-    let mut functions = List::new(alloc);
-    push_functions(alloc, &mut functions, ours)?;
-    push_functions(alloc, &mut functions, theirs)?;
-    Ok(functions)
 }
 
 /// The exports of the client that are kept, and those of the library.
@@ -181,16 +149,15 @@ fn exports_of(
 {
     let mut exports = kept;
     let added = client.program().parts().functions.len() as u32;
-    push_exports(
-        alloc,
-        &mut exports,
-        library.program().parts().exports.as_slice(),
-        added,
-    )?;
+    for export in library.program().parts().exports.as_slice() {
+        let mut copy = ExportDef::copy_of(alloc, export)?;
+        copy.function += added;
+        exports.push(copy)?;
+    }
     Ok(exports)
 }
 
-/// The commands of the joined program.
+/// The commands of the joined program; none of the library's goes to the client.
 fn commands_of(
     alloc: Global,
     client: &WellFormed,
@@ -202,89 +169,33 @@ fn commands_of(
     requires goals { LeadsTo iface.now client.now library.now goals.now }
     ensures { IfOk result (λ commands. commands ≡ (joined client.now library.now iface.now).commands) }
 {
-    let client_firsts = firsts_of(alloc, client.program().parts())?;
-    let library_firsts = firsts_of(alloc, library.program().parts())?;
-    let mut commands = List::new(alloc);
-    push_all(
-        &mut commands,
-        &client.program().parts().commands.as_slice()[..FIRST_ENTRY as usize],
-    )?;
-    push_client(
-        &mut commands,
-        client,
-        library,
-        iface,
-        client_firsts.as_slice(),
-        library_firsts.as_slice(),
-        goals,
-    )?;
-    push_library(
-        &mut commands,
-        client,
-        library,
-        iface,
-        client_firsts.as_slice(),
-        library_firsts.as_slice(),
-    )?;
-    Ok(commands)
-}
-
-/// Appends the client's commands.
-fn push_client(
-    to: &mut List<Command>,
-    client: &WellFormed,
-    library: &WellFormed,
-    iface: &Iface,
-    client_firsts: &[u32],
-    library_firsts: &[u32],
-    goals: &[Option<u32>],
-) -> Result<(), NoMemory>
-    requires can { CanJoin client.now library.now iface.now }
-    requires client_firsts { AreValues (first_of client.now) (length client.now.functions) client_firsts.now }
-    requires library_firsts { AreValues (first_of library.now) (length library.now.functions) library_firsts.now }
-    requires goals { LeadsTo iface.now client.now library.now goals.now }
-    ensures { OnOk result (to.new ≡ to.old ++ map (renamed (client_numbers iface.now client.now library.now)) (drop 7 client.now.commands)) }
-{
-    let part = client.program().parts();
-    let other = library.program().parts();
-    let numbers = Numbers {
-        part,
-        shift: client_shift(other),
-        firsts: client_firsts,
-        other,
-        other_shift: library_shift(part),
-        other_firsts: library_firsts,
+    let ours = client.program().parts();
+    let theirs = library.program().parts();
+    let our_firsts = firsts_of(alloc, ours)?;
+    let their_firsts = firsts_of(alloc, theirs)?;
+    let of_client = Numbers {
+        part: ours,
+        shift: client_shift(theirs),
+        firsts: our_firsts.as_slice(),
+        other: theirs,
+        other_shift: library_shift(ours),
+        other_firsts: their_firsts.as_slice(),
         goals,
     };
-    numbers.push(to, &part.commands.as_slice()[FIRST_ENTRY as usize..])
-}
-
-/// Appends the library's commands, of which none goes to the client.
-fn push_library(
-    to: &mut List<Command>,
-    client: &WellFormed,
-    library: &WellFormed,
-    iface: &Iface,
-    client_firsts: &[u32],
-    library_firsts: &[u32],
-) -> Result<(), NoMemory>
-    requires can { CanJoin client.now library.now iface.now }
-    requires client_firsts { AreValues (first_of client.now) (length client.now.functions) client_firsts.now }
-    requires library_firsts { AreValues (first_of library.now) (length library.now.functions) library_firsts.now }
-    ensures { OnOk result (to.new ≡ to.old ++ map (renamed (library_numbers client.now library.now)) (drop 7 library.now.commands)) }
-{
-    let part = library.program().parts();
-    let other = client.program().parts();
-    let numbers = Numbers {
-        part,
-        shift: library_shift(other),
-        firsts: library_firsts,
-        other,
-        other_shift: client_shift(part),
-        other_firsts: client_firsts,
+    let of_library = Numbers {
+        part: theirs,
+        shift: of_client.other_shift,
+        firsts: of_client.other_firsts,
+        other: ours,
+        other_shift: of_client.shift,
+        other_firsts: of_client.firsts,
         goals: &[],
     };
-    numbers.push(to, &part.commands.as_slice()[FIRST_ENTRY as usize..])
+    let first = FIRST_ENTRY as usize;
+    let mut commands = copied(alloc, &ours.commands.as_slice()[..first])?;
+    of_client.push(&mut commands, &ours.commands.as_slice()[first..])?;
+    of_library.push(&mut commands, &theirs.commands.as_slice()[first..])?;
+    Ok(commands)
 }
 
 /// The demands of both: those of results, and then those of globals.
@@ -319,13 +230,13 @@ fn weights_of(
     ensures { IfOk result (λ weights. weights ≡ client.now.weights ++ map (moved_weight (library_shift client.now)) library.now.weights) }
 {
     let shift = library_shift(client.program().parts());
-    let mut weights = List::new(alloc);
-    push_all(&mut weights, client.program().parts().weights.as_slice())?;
-    push_weights(
-        &mut weights,
-        shift,
-        library.program().parts().weights.as_slice(),
-    )?;
+    let mut weights = copied(alloc, client.program().parts().weights.as_slice())?;
+    for entry in library.program().parts().weights.as_slice() {
+        weights.push(SiteWeight {
+            at: moved_position(shift, entry.at),
+            weight: entry.weight,
+        })?;
+    }
     Ok(weights)
 }
 

@@ -18,8 +18,8 @@ use std::alloc::Global;
 /// once, but not both as given and as owed. Costs the interface, the functions and the exports, but for a logarithm of how many exports there are.
 pub(crate) fn asked_of(
     alloc: Global,
-    program: &WellFormed,
     role: Role,
+    program: &WellFormed,
     iface: &Iface,
 ) -> Result<AskedOf, NoMemory>
     requires { Matches program.now iface.now }

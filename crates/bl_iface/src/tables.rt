@@ -1,5 +1,5 @@
 //! The tables by which a client and a library are joined.
-ghost use Rattle.std.specs.Prelude.{◌≡◌, IfOk, length, replicate, None};
+ghost use Rattle.std.specs.Prelude.{◌≡◌, IfOk, length};
 ghost use Rattle.bl_iface.specs.{InterfaceFunctions.AreTargets, PartNumbers.LeadsTo};
 
 use crate::iface::Iface;
@@ -21,22 +21,11 @@ pub(crate) fn goals_of(
     requires theirs { AreTargets library.now iface.now theirs.now }
     ensures { IfOk result (LeadsTo iface.now client.now library.now) }
 {
-    let mut goals = no_goals(alloc, client.program().parts().functions.len())?;
+    let mut goals = vec![in alloc; None; client.program().parts().functions.len()]?;
     let mut left = ours.len();
     while left > 0 {
         left -= 1;
         goals[ours[left] as usize] = Some(theirs[left]);
     }
     Ok(List::of(goals))
-}
-
-/// Nothing for so many functions.
-fn no_goals(alloc: Global, functions: usize) -> Result<Vec<Option<u32>>, NoMemory>
-    ensures { IfOk result (λ goals. goals.items ≡ replicate functions None) }
-{
-    let mut goals = Vec::new(alloc);
-    for done in 0..functions {
-        goals.push(None)?;
-    }
-    Ok(goals)
 }

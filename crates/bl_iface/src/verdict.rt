@@ -34,7 +34,7 @@ pub fn passes_under(
     ensures { IfOk result (JudgesAs role iface.now program.now (is_protected program.now)) }
 {
     let graph = graph(alloc, program)?;
-    let asked = asked_of(alloc, program, role, iface)?;
+    let asked = asked_of(alloc, role, program, iface)?;
     let parts = program.program().parts();
     let protects = own_protects(alloc, parts, parts.commands.len() as u32)?;
     let bad = first_bad_of(alloc, program, &graph, &asked, &protects)?;

@@ -1,4 +1,4 @@
-use Rattle.std.proofs.Common.{◌≡◌, ◌-◌, ◌<◌, ℕ, length, drop, refl, ap, sym, subst, ◌∙◌, arith}
+use Rattle.std.proofs.Common.{rules, ◌≡◌, ◌-◌, ◌<◌, ℕ, length, drop, refl, ap, sym, subst, ◌∙◌, arith}
 use Rattle.std.proofs.lemmas.List.{length-replicate, length-set}
 use Rattle.bl_program.specs.declared.definitions.ProgramParts.{ProgramParts}
 use Rattle.bl_iface.specs.PartNumbers.{LeadsTo, goal_in}
@@ -8,10 +8,11 @@ use Rattle.bl_iface.proofs.tables.goals_of.Goals as goal
 pub loop-left-init : goal.loop-left-init
 loop-left-init c =
     let same = c.parts.ensures.same ∙ c.program.ensures.same in
+    let none = c.in_ok-goals.ensures.items_if_clones_equal (λ y e. (search rules)) in
     record {
       within = omega arith;
-      many = ap length c.in_ok-goals.ensures ∙ length-replicate _ _ ∙ c.len.ensures ∙ ap (λ (p : ProgramParts). length p.functions) same;
-      each = λ f lt. goals_none c.args.ours.now c.args.theirs.now c.len.result f c.in_ok-goals.goals.items c.in_ok-goals.ensures;
+      many = ap length none ∙ length-replicate _ _ ∙ c.len.ensures ∙ ap (λ (p : ProgramParts). length p.functions) same;
+      each = λ f lt. goals_none c.args.ours.now c.args.theirs.now c.len.result f c.in_ok-goals.goals.items none;
     }
 
 pub loop-left-preserved : goal.loop-left-preserved
