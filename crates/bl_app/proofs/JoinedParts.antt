@@ -1,5 +1,5 @@
 -- What is joined of two parts is the program of the joined tree, but for marks and weights.
-use Rattle.std.proofs.Common.{◌≡◌, ℕ, List, [], ◌∷◌, Bool, Option, Some, None, refl, sym, ap, ◌∙◌, subst, drop, get_or}
+use Rattle.std.proofs.Common.{◌≡◌, ℕ, List, [], ◌∷◌, Bool, Some, sym, ap, ◌∙◌, subst, drop, get_or}
 use Rattle.std.specs.Prelude.{IsSomeAnd}
 use Rattle.std.specs.List.{All}
 use Rattle.bl_base.proofs.Lists.{all_from, all_get}

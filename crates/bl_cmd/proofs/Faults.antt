@@ -6,7 +6,7 @@ use Rattle.bl_program.specs.Layout.{entry_of, command_at, Holds}
 use Rattle.bl_program.specs.Programs.{IsProgram}
 use Rattle.bl_program.specs.Rules.{Rule4, Rule5, Rule6, Rule7, Breaks, memories, functions, exports, variables, targets, ranges, accesses, growths, demands, IsFirstBroken, IsWellFormed}
 use Rattle.bl_cmd.specs.Verdicts as verdict
-use Rattle.bl_cmd.specs.Verdicts.{KeepsParts, BreaksParts, KeepsRules, BreaksRule, KeepsBelow, IsFaultIn, IsFault}
+use Rattle.bl_cmd.specs.Verdicts.{KeepsParts, BreaksParts, KeepsRules, BreaksRule, KeepsBelow, IsFault}
 use Rattle.bl_program.specs.declared.command.Command.{Command}
 use Rattle.bl_cmd.specs.declared.verdict.Fault.{Fault}
 use Rattle.bl_program.specs.declared.definitions.ProgramParts.{ProgramParts as Program}

@@ -1,10 +1,10 @@
 -- What the tables of a program tell of its positions and variables.
-use Rattle.std.proofs.Common.{◌≡◌, ◌⊎◌, ◌↔◌, inl, inr, ℕ, zero, suc, ◌+◌, ◌-◌, ◌<◌, ◌≤◌, List, [], ◌∷◌, ◌++◌, length, get_or, Option, Some, None, slice_get, true, false, Bool, IsTrue, MatchOption, refl, sym, ap, ◌∙◌, subst, arith}
-use Rattle.std.specs.Prelude.{IsSomeAnd, is_some, not}
+use Rattle.std.proofs.Common.{◌≡◌, ◌⊎◌, ◌↔◌, inl, inr, ℕ, suc, ◌+◌, ◌-◌, ◌<◌, ◌≤◌, List, [], ◌∷◌, ◌++◌, length, get_or, Option, Some, None, slice_get, true, false, Bool, IsTrue, MatchOption, refl, sym, ap, ◌∙◌, subst, arith}
+use Rattle.std.specs.Prelude.{is_some, not}
 use Rattle.bl_base.specs.declared.number.Var.{Var}
 use Rattle.bl_program.specs.declared.command.Operand.{Operand}
 use Rattle.bl_program.specs.declared.command.Operand.TheVariants as named
-use Rattle.std.proofs.lemmas.Bool.{cases_lt, false≢true}
+use Rattle.std.proofs.lemmas.Bool.{false≢true}
 use Rattle.std.proofs.lemmas.Option.{none-some, slice_get-get_or}
 use Rattle.bl_base.proofs.OptionLemmas.{some_with, with_some}
 use Rattle.bl_program.specs.Layout.{first_of, entry_of, AreValues, Holds}

@@ -1,6 +1,6 @@
 -- The tables with which a program's commands are checked.
 use Rattle.bl_program.specs.Sites.{Names}
-use Rattle.std.specs.Prelude.{◌≡◌, ◌≢◌, ◌⊎◌, ◌<◌, ◌≤◌, ℕ, suc, ◌-◌, List, [], ◌∷◌, length, slice_index}
+use Rattle.std.specs.Prelude.{◌≡◌, ◌≢◌, ◌⊎◌, ◌<◌, ◌≤◌, ℕ, ◌-◌, List, [], ◌∷◌, length}
 use Rattle.bl_program.specs.Layout.{first_of, entry_of, AreValues, Holds}
 use Rattle.bl_program.specs.Programs.{IsProgram}
 use Rattle.bl_program.specs.Rules.{Rule2, IsLocal, IsReadable, IsPassed, IsGuarded, variable}

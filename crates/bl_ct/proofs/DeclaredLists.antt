@@ -1,14 +1,14 @@
 -- The lists of what a program declares, whole.
 use Rattle.std.proofs.Common.{◌≡◌, ◌↔◌, ◌⊎◌, inl, inr, ℕ, suc, ◌+◌, ◌^◌, ◌<◌, List, [], ◌∷◌, ◌++◌, length, get_or, map, Option, Some, slice_get, refl, sym, ap, subst, ◌∙◌, arith}
 use Rattle.std.specs.Prelude.{IsSomeAnd, option_map}
-use Rattle.std.specs.List.{Contains, slice_index_or}
+use Rattle.std.specs.List.{Contains}
 use Rattle.std.proofs.lemmas.Option.{slice_get_within, slice_get-get_or, same_Some}
 use Rattle.bl_base.proofs.Lists.{all_get, within_get}
 use Rattle.bl_base.specs.declared.number.Var.{Var}
 use Rattle.bl_base.specs.declared.names.Label.TheVariants as label
 use Rattle.bl_base.proofs.Members.{in_map, from_map}
 use Rattle.bl_base.proofs.OptionLemmas.{some_with, with_some}
-use Rattle.bl_program.specs.Layout.{command_at, first_of, params_of, results_of, statics}
+use Rattle.bl_program.specs.Layout.{command_at, first_of, params_of, results_of}
 use Rattle.bl_program.specs.Rules.{IsFunction, IsWellFormed}
 use Rattle.bl_program.specs.declared.command.Command.{Command}
 use Rattle.bl_program.specs.declared.definitions.FunctionDef.{FunctionDef}

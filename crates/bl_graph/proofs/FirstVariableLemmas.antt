@@ -1,7 +1,7 @@
 -- The first variables of functions, and what a function's commands write.
-use Rattle.std.proofs.Common.{◌≡◌, ℕ, zero, suc, ◌+◌, ◌^◌, ◌<◌, List, [], ◌∷◌, length, Some, refl, ap, subst, ◌∙◌, arith}
+use Rattle.std.proofs.Common.{◌≡◌, ℕ, ◌+◌, ◌^◌, ◌<◌, [], ◌∷◌, length, Some, ap, subst, ◌∙◌, arith}
 use Rattle.std.specs.Prelude.{slice_index}
-use Rattle.bl_program.specs.Layout.{sum_before, first_of, params_of, results_of, param, result, running as owner, command_at, Holds}
+use Rattle.bl_program.specs.Layout.{first_of, params_of, results_of, param, result, running as owner, command_at, Holds}
 use Rattle.bl_program.specs.Rules.{Rule6}
 use Rattle.bl_program.specs.declared.command.Command.{Command}
 use Rattle.bl_program.specs.declared.command.Command.TheVariants.{Arg, Out}

@@ -1,5 +1,5 @@
-//! Tests of commands that run what is built: `interp`, `run`, `spec` and `predict`, over lists of modules and over images, also such
-//! as are cut or changed at a byte or declare more than they name.
+//! Tests of commands that run what is built, over lists of modules and over images, also such as are cut or changed at a byte or declare
+//! more than they name. Two runs side by side stand in tests_verdicts.
 #![tactic(auto)]
 
 #[cfg(test)]

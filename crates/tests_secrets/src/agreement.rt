@@ -1,8 +1,8 @@
 //! Starts that agree in public, and starts that don't. By hand: they agree where the arguments at public parameters and the bytes of public memories
 //! behind the patches are equal.
 use bl_base::{List, NoMemory, Patch, Start, Text};
+use bl_cmd::WellFormed;
 use bl_image::decode_image;
-use bl_program::WellFormed;
 use bl_twin::agree;
 use std::alloc::Global;
 use std::test::Fail;
