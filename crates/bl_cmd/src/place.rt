@@ -1,5 +1,5 @@
 //! A command's place in its program, and what is asked of the numbers that it names there.
-ghost use Rattle.std.specs.Prelude.{◌≡◌, ◌≤◌, ◌<◌, ◌+◌, ◌-◌, ◌↔◌, ◌⊎◌, ℕ, IsTrue, MatchOption, Some, length, option_map, suc, slice_get, slice_index};
+ghost use Rattle.std.specs.Prelude.{◌≡◌, ◌≤◌, ◌<◌, ◌+◌, ◌-◌, ◌↔◌, ℕ, IsTrue, MatchOption, Some, length, option_map, suc, slice_get};
 ghost use Rattle.bl_program.specs.Layout.{entry_of, first_of, params_of, results_of, size_of, statics, Holds};
 ghost use Rattle.bl_program.specs.Rules.{IsGuarded, IsLocal, IsOwn, IsPassed, IsReadable, IsResult, IsWritable, variable};
 ghost use Rattle.bl_cmd.specs.Tables.{IsPlace, IsTarget, ReadsOne};

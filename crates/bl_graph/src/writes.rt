@@ -1,7 +1,7 @@
 //! What sites write.
 ghost use Rattle.std.specs.Prelude.{◌≡◌, IfOk, OnOk, Some, option_map, suc};
 ghost use Rattle.bl_program.specs.Layout.{command_at, entry_of, Holds};
-ghost use Rattle.bl_program.specs.{Rules.IsWellFormed, Sites.written_by, Sites.Writes};
+ghost use Rattle.bl_program.specs.Sites.{Writes, written_by};
 ghost use Rattle.bl_graph.specs.{Graphs.AreUses, Ranges.AreInRange, Ranges.variables};
 ghost use Rattle.bl_graph.specs.{FirstVariables.IsRunning, UseLists.AddsRow, UseLists.AreBelow};
 

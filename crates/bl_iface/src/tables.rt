@@ -1,5 +1,5 @@
 //! The tables by which a client and a library are joined.
-ghost use Rattle.std.specs.Prelude.{◌≡◌, IfOk, length};
+ghost use Rattle.std.specs.Prelude.{IfOk, length};
 ghost use Rattle.bl_iface.specs.{InterfaceFunctions.AreTargets, PartNumbers.LeadsTo};
 
 use crate::iface::Iface;

@@ -1,5 +1,5 @@
 //! Where the variables of each function begin, and which function's a number is.
-ghost use Rattle.std.specs.Prelude.{◌≡◌, ◌≤◌, ◌<◌, ◌+◌, ◌-◌, ◌⊎◌, IfOk, MatchOption, length, slice_index};
+ghost use Rattle.std.specs.Prelude.{◌≤◌, ◌<◌, ◌+◌, ◌-◌, ◌⊎◌, IfOk, MatchOption, length, slice_index};
 ghost use Rattle.bl_program.specs.{Layout.AreValues, Layout.first_of, Rules.Rule2};
 
 use crate::definitions::ProgramParts;
