@@ -1,13 +1,13 @@
 #!/usr/bin/env python3
 """Prints what tests of `predict` expect: the trace and the counts of drives of the images there, and the hits and misses of accesses. It knows the
-rules of the buffer machine on functions that call nothing, of the predictor and of the cache, reads images by examples/explain, and shares no code
+rules of the buffer machine on functions that call nothing, of the predictor and of the cache, reads images by companions/blade_companions, and shares no code
 with Blade. usage: python3 oracles/drives.py"""
 import pathlib
 import sys
 
-sys.path.insert(0, str(pathlib.Path(__file__).resolve().parents[1] / 'examples'))
-from explain.image import read_image
-from explain.running import Start, Run, meaning
+sys.path.insert(0, str(pathlib.Path(__file__).resolve().parents[1] / 'companions'))
+from blade_companions.formats.image import read_image
+from blade_companions.formats.running import Start, Run, meaning
 
 
 class Lines:

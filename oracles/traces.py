@@ -1,6 +1,6 @@
 #!/usr/bin/env python3
 """Prints what directives on programs show, as `spec`, `twin` and `forward` do. It has the rules of both buffer machines, written from docs/CLI.md and
-FORMATS, reads images by examples/explain, and shares no code with Blade. Images are spelled by `images.py` from commands that are written here by hand.
+FORMATS, reads images by companions/blade_companions, and shares no code with Blade. Images are spelled by `images.py` from commands that are written here by hand.
 
 Directives are letters: `f` fetches, `y` and `n` predict that the condition isn't 0 or that it is, `r` retires, and a digit executes that entry.
 
@@ -8,10 +8,10 @@ usage: python3 oracles/traces.py"""
 import pathlib
 import sys
 
-sys.path.insert(0, str(pathlib.Path(__file__).resolve().parents[1] / 'examples'))
-from explain.image import DIVISIONS, read_image
-from explain.lowering import ACCESS_NAMES
-from explain.running import meaning, read_start, signed, width_of
+sys.path.insert(0, str(pathlib.Path(__file__).resolve().parents[1] / 'companions'))
+from blade_companions.formats.image import DIVISIONS, read_image
+from blade_companions.formats.lowering import ACCESS_NAMES
+from blade_companions.formats.running import meaning, read_start, signed, width_of
 
 from images import F, IMAGES, PAGE, spelled
 

@@ -3,7 +3,7 @@ set(CMAKE_SYSTEM_NAME Generic)
 set(CMAKE_SYSTEM_PROCESSOR wasm32)
 # CMake's trials have no secrets to declare: they are compiled alone.
 set(CMAKE_TRY_COMPILE_TARGET_TYPE STATIC_LIBRARY)
-find_program(BLADE_CC blade-cc HINTS ${CMAKE_CURRENT_LIST_DIR}/.. REQUIRED)
+find_program(BLADE_CC blade-cc HINTS ${CMAKE_CURRENT_LIST_DIR}/../../companions REQUIRED)
 set(CMAKE_C_COMPILER ${BLADE_CC})
 set(CMAKE_CXX_COMPILER ${BLADE_CC})
 # The system's ar doesn't index objects of wasm: package llvm.

@@ -1,5 +1,5 @@
 //! Images that are read, written and refused. Which rule a changed byte breaks, and where, was worked by hand from the rules of programs in FORMATS;
-//! `examples/formats/read.py`, which was written from that page alone, answers the same. Lengths are those of the arrays.
+//! `formats/read.py`, which was written from that page alone, answers the same. Lengths are those of the arrays.
 use crate::seq::program_of;
 use bl_base::{NoMemory, Pos, SiteSet};
 use bl_image::{ImageError, decode_image, encode, image_length};

@@ -1,5 +1,5 @@
 //! Certificates that break a rule, and texts that are none. Which rule is broken first was worked by hand from the rules of certificates in FORMATS;
-//! `examples/formats/read.py`, which was written from that page alone, answers the same.
+//! `formats/read.py`, which was written from that page alone, answers the same.
 use crate::images::{DOUBLED, LOADS, SUM};
 use crate::least::{certificate_of, program_of, verdict};
 use bl_base::{NoMemory, Pos, SiteSet};

@@ -1,5 +1,5 @@
 //! Images and modules with a byte changed or missing. Which rule a changed image breaks, and where, was worked by hand from the rules of programs in
-//! FORMATS; `examples/formats/read.py`, which was written from that page alone, answers the same. The modules break one rule or limit each.
+//! FORMATS; `formats/read.py`, which was written from that page alone, answers the same. The modules break one rule or limit each.
 use bl_base::NoMemory;
 use bl_outside::MemoryShelf;
 use std::alloc::Global;

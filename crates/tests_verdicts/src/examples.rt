@@ -1,4 +1,4 @@
-//! The counts in the reports are those of `examples/blade-explain --list`, which follows the rules of lowering and knows nothing of the program;
+//! The counts in the reports are those of `companions/blade-explain --list`, which follows the rules of lowering and knows nothing of the program;
 //! weights, paths and chains are read off its list of commands by hand. Where several chains or paths are right, each is taken that
 //! takes no position twice.
 use crate::modules::{COMPARE, LIST, LOOKUP, MASKED, MASKED_SSA, QUARTER};

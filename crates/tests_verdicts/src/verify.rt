@@ -1,4 +1,4 @@
-//! The lines are computed by hand from the rules of certificates, the transient rules and the label rules; `examples/formats/read.py`, which was written
+//! The lines are computed by hand from the rules of certificates, the transient rules and the label rules; `formats/read.py`, which was written
 //! from FORMATS alone, gives the same verdicts.
 use bl_base::NoMemory;
 use bl_outside::MemoryShelf;

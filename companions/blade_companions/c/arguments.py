@@ -1,0 +1,146 @@
+"""The words of blade-cc. Licence: public domain (CC0)."""
+from __future__ import annotations
+
+import os
+import re
+import shlex
+from dataclasses import dataclass, field
+from typing import Callable, Dict, List, Optional, Sequence, Tuple
+
+from ..formats.reading import read_file
+
+YES, NO, USAGE, BUILD, MISSING, LABELS, REFUSED, DISAGREE = range(8)
+SOURCES = (".c", ".cc", ".cpp", ".cxx", ".C", ".s", ".S", ".i")
+OBJECTS = (".o", ".a", ".obj", ".bc")
+# clang's words that have another one behind them.
+WITH_NEXT = frozenset("-I -D -U -include -isystem -idirafter -iquote -x -Xclang -mllvm -MF -MT -MQ -imacros -isysroot --sysroot -std".split())
+ALONE = frozenset("-c -S -E -M -MM -fsyntax-only -###".split())  # clang does all there is to do
+OTHER_MACHINE = {
+    "-mbulk-memory": "operations on whole memories", "-msimd128": "vectors", "-mrelaxed-simd": "vectors", "-mreference-types": "references",
+    "-matomics": "threads", "-pthread": "threads", "-mtail-call": "tail calls", "-mexception-handling": "exceptions",
+    "-mnontrapping-fptoint": "floats", "-mmultimemory": "several memories", "-m64": "64-bit addresses"}
+
+
+class Stop(Exception):
+    """The work ends: a status, and what is said."""
+
+    def __init__(self, status: int, *lines: str) -> None:
+        super().__init__(*lines)
+        self.status, self.lines = status, lines
+
+
+@dataclass
+class Asked:
+    """What the words ask for."""
+
+    flags: List[str] = field(default_factory=list)
+    links: List[str] = field(default_factory=list)
+    sources: List[str] = field(default_factory=list)
+    objects: List[str] = field(default_factory=list)
+    labels: List[str] = field(default_factory=list)
+    counts: List[str] = field(default_factory=list)  # start files, by EXPORT=FILE where there are several exports
+    start: Optional[str] = None  # a start file for a search after a no, in the same way
+    out: Optional[str] = None
+    name: Optional[str] = None
+    blade: Optional[str] = None
+    way: Optional[str] = None  # ledger or vault
+    pages: Optional[int] = None
+    limit: int = 20
+    alone: bool = False
+    verbose: bool = False
+    unlabelled: bool = False
+    no_fail: bool = False
+
+    def is_linked_with(self, word: str) -> bool:
+        return any(word in one for one in self.links)
+
+    @property
+    def labelled_functions(self) -> List[str]:
+        """The functions, by name, of which words declare a parameter."""
+        pairs = zip(self.labels, self.labels[1:])
+        return [name for kind, name in pairs if kind == "secret-param" and not name.isdigit()]
+
+    @property
+    def base(self) -> str:
+        """The name of what is made, where -o doesn't say it."""
+        files = self.sources + self.objects
+        return os.path.splitext(os.path.basename(files[0]))[0] if len(files) == 1 else "a"
+
+
+def number(word: str, value: str, most: int) -> int:
+    if not value.isdigit() or not 0 < int(value) <= most:
+        raise Stop(USAGE, f"blade-cc: error: {word} {value}: a number from 1 to {most} is due")
+    return int(value)
+
+
+def setters(asked: Asked) -> Dict[str, Callable[[str], None]]:
+    """Words of blade-cc that have a value: by their name, what the value does."""
+
+    def keep(name: str) -> Callable[[str], None]:
+        return lambda value: setattr(asked, name, value)
+
+    return {
+        "-o": keep("out"), "--name": keep("name"), "--blade": keep("blade"),
+        "--label": lambda value: asked.labels.extend(value.split()), "--counts": asked.counts.append,
+        "--start": keep("start"),
+        "--export": lambda value: asked.links.append(f"--export={value}"),
+        "--memory": lambda value: setattr(asked, "pages", number("--memory", value, 256)),
+        "--limit": lambda value: setattr(asked, "limit", number("--limit", value, 1_000_000)),
+        "-Xlinker": asked.links.append, "-z": lambda value: asked.links.extend(["-z", value]),
+    }
+
+
+SWITCHES: Dict[str, Tuple[str, object]] = {
+    "--ledger": ("way", "ledger"), "--vault": ("way", "vault"), "--unlabelled": ("unlabelled", True), "--no-fail": ("no_fail", True),
+    "-v": ("verbose", True)}
+
+
+def asked_by(words: Sequence[str]) -> Asked:
+    asked, rest = Asked(), list(words)
+    values = setters(asked)
+    while rest:
+        word = rest.pop(0)
+        if word.startswith("@") and os.path.isfile(word[1:]):
+            # A file of words, as CMake makes them.
+            rest[:0] = shlex.split(read_file(word[1:]).decode())
+            continue
+        name, is_joined, value = word.partition("=")
+        if word in values or word in WITH_NEXT:
+            if not rest:
+                raise Stop(USAGE, f"blade-cc: error: {word} needs a word behind it")
+            value = rest.pop(0)
+            values[word](value) if word in values else asked.flags.extend([word, value])
+        elif name in values and is_joined and name.startswith("--"):
+            values[name](value)
+        elif word in SWITCHES:
+            setattr(asked, *SWITCHES[word])
+        else:
+            plain(asked, word)
+    return asked
+
+
+def plain(asked: Asked, word: str) -> None:
+    """A word that stands for itself: clang's, the linker's, or a file."""
+    if word in ALONE or word.startswith(("-print-", "-dump")) or word == "--version":
+        asked.alone = True
+        asked.flags.append(word)
+    elif word.startswith("-Wl,"):
+        asked.links += word.split(",")[1:]
+    elif word.startswith(("--export-", "--initial-memory=", "--max-memory=", "-L", "-l")):
+        asked.links.append(word)
+    elif word.startswith("-") and word != "-":
+        refuse_machine(word)
+        asked.flags.append(word)
+    elif word.endswith(OBJECTS):
+        asked.objects.append(word)
+    elif word.endswith(SOURCES):
+        asked.sources.append(word)
+    else:
+        raise Stop(USAGE, f"blade-cc: error: {word}: neither a source ({' '.join(SOURCES)}) nor an object ({' '.join(OBJECTS)})")
+
+
+def refuse_machine(word: str) -> None:
+    if word in OTHER_MACHINE:
+        raise Stop(USAGE, f"blade-cc: error: {word}: blade takes WebAssembly 1.0, without {OTHER_MACHINE[word]}; leave it out")
+    if re.match(r"-m(cpu|arch|tune)=(?!mvp$)|--target=(?!wasm32)", word):
+        raise Stop(USAGE, f"blade-cc: error: {word}: blade-cc compiles for wasm32 with -mcpu=mvp; leave it out")

@@ -1,0 +1,247 @@
+"""What C declares by the macros of blade.h, which stands in the section blade.secrets, turned into entries of blade.labels. Licence: public domain (CC0)."""
+from __future__ import annotations
+
+import difflib
+import os
+import re
+from dataclasses import dataclass, field
+from typing import Dict, FrozenSet, List, NamedTuple, Optional, Sequence, Set, Tuple
+
+from .dwarf import Call, Subprogram, Walk, all_contents, subprograms, variables
+from ..formats.labels import KINDS, Entry, check, entries_in, is_labelled, number_of, section_of, without_labels
+from .paths import shown
+from ..formats.reading import Bad, read_file
+from ..formats.module import FUNCTION, Module
+
+NAME = "blade.secrets"
+INCLUDED = "<built-in>"  # what clang calls the unit in a file that is named by -include: that goes to all units
+NOTHING = "nothing is declared secret: BLADE_SECRET_PARAM or BLADE_SECRET_MEMORY of blade.h, or words; --unlabelled where that is meant"
+KEEP = "so keep it by __attribute__((noinline)), or declare the caller's parameter"
+
+
+@dataclass(frozen=True)
+class Declared:
+    """What a line of C declares, the line, and the units that have it: a header may stand in several."""
+
+    kind: str
+    name: str
+    which: str
+    where: str
+    units: FrozenSet[str] = field(default=frozenset(), compare=False)
+
+
+class Labelled(NamedTuple):
+    """Entries, each with where it was declared; what is wrong with the others; and what is to be known of those of words."""
+
+    entries: List[Tuple[Entry, str]]
+    errors: List[str]
+    warnings: List[str]
+
+
+def read_lines(lines: Sequence[str]) -> List[Declared]:
+    found: Dict[Tuple[str, ...], Set[str]] = {}
+    for line in lines:
+        parts = line.split("\t")
+        if len(parts) != 5 or parts[0] not in KINDS:
+            raise Bad(f"{NAME}: a line that blade.h doesn't write: {line!r}")
+        found.setdefault(tuple(parts[:4]), set()).add(parts[4])
+    return [Declared(*parts, frozenset(units)) for parts, units in found.items()]
+
+
+def declared(module: Module) -> List[Declared]:
+    """The lines of the section, each once."""
+    return read_lines(b"".join(all_contents(module, NAME)).decode("utf-8", "replace").splitlines())
+
+
+def in_files(paths: Sequence[str]) -> List[Declared]:
+    """The lines that stand in objects and archives, members that aren't linked included. In LLVM's bitcode they can't be seen."""
+    pattern = rb"(?:%s)\t[^\t\n]+\t[^\t\n]+\t[^\t\n]+:\d+\t[^\t\n]+\n" % "|".join(KINDS).encode()
+    return read_lines([words.decode("utf-8", "replace").rstrip("\n") for path in paths for words in re.findall(pattern, read_file(path))])
+
+
+def left_out(module: Module, paths: Sequence[str]) -> List[str]:
+    """What stands in units that the linker left out and yet speaks of the module: it would be public in silence."""
+    kept, told = set(declared(module)), []
+    for one in in_files(paths):
+        if one in kept:
+            continue
+        if one.kind == "secret-memory":
+            told.append(f"{one.where}: error: the memory is declared secret here, in a unit of a library that isn't linked: declare it beside "
+                        "a function that is used, or by --label 'secret-memory 0' [blade-label]")
+        elif KINDS[one.kind].names[0] == "function" and named(module, one.name):
+            told.append(f"{one.where}: error: {one.name} is labelled here, in a unit of a library that isn't linked: have the unit that defines "
+                        f"{one.name} include this line [blade-label]")
+    return told
+
+
+def base(name: str) -> str:
+    """A function's name without what the linker shows of a C++ function's parameters."""
+    return name.partition("(")[0]
+
+
+def near(word: str, names: Sequence[str]) -> str:
+    """Asks whether a name was meant that looks like the word."""
+    found = difflib.get_close_matches(word, names, 1)
+    return f": do you mean {found[0]}?" if found else ""
+
+
+def named(module: Module, name: str) -> Set[int]:
+    """The functions of a name. wasm-opt calls the second of two static functions NAME.1."""
+    found = {index for index, told in module.names.items() if name in (told, base(told), re.sub(r"\.\d+$", "", told))}
+    return found | {index for (sort, told), index in module.exports.items() if (sort, told) == (FUNCTION, name)}
+
+
+class Resolver:
+    """Finds what declared lines name: functions by DWARF, else by the name section and exports."""
+
+    def __init__(self, module: Module) -> None:
+        self.module = module
+        walk = Walk(module)
+        self.told, self.folders = walk.run(), walk.folders
+
+    def place(self, one: Declared) -> str:
+        """Where a line stands: its file was named from the folder that its unit was compiled in."""
+        path, _, number = one.where.rpartition(":")
+        tried = [path] + [os.path.join(self.folders[unit], path) for unit in sorted(one.units) if unit in self.folders]
+        return f"{shown(next((it for it in tried if os.path.exists(it)), path))}:{number}"
+
+    def function(self, name: str, where: str) -> Tuple[int, List[Subprogram]]:
+        """The function, and what DWARF says of those of its name."""
+        if name.isdigit():
+            return int(name), []
+        known = [one for one in self.told if name in (one.name, one.linkage)]
+        found = {one.function for one in known if one.function is not None} | named(self.module, name)
+        if len(found) > 1:
+            # Static ones of several files: that of the file that the line stands in.
+            file = "/" + where.rpartition(":")[0]
+            here = {one.function for one in known if one.function in found and ("/" + one.path).endswith(file)}
+            found = here if len(here) == 1 else found
+        if len(found) == 1:
+            return found.pop(), known
+        raise Bad(self.why_none(name, known, found))
+
+    def why_none(self, name: str, known: Sequence[Subprogram], found: Set[int]) -> str:
+        """Why a name isn't that of one function."""
+        if found:
+            places = ", ".join(f"{one.path}:{one.line}" for one in known if one.function in found)
+            return f"{len(found)} functions are called {name}{' (' + places + ')' if places else ''}: give one of them another name"
+        at = next((one.inlined[0] for one in known if one.inlined), None)
+        if at:
+            return f"{name} isn't in the module: clang inlined it, for one at {at.path}:{at.line} in {at.caller}, {KEEP}"
+        if known:
+            return f"{name} isn't in the module: nothing uses it. Export it, or drop the line"
+        if name in variables(self.module):
+            return f"{name} is a variable of C, which stands in memory: BLADE_SECRET_MEMORY declares all of that"
+        asked = near(name, [base(told) for told in self.module.names.values()])
+        return f"there is no function {name}{asked or ' (nothing uses it, so the linker or clang dropped it; export it, or drop the line)'}"
+
+    def parameter(self, function: int, one: Optional[Subprogram], word: str) -> int:
+        """The number of a parameter that C calls so."""
+        if word.isdigit():
+            return int(word)
+        name, count = self.module.function_name(function), len(self.module.type_of(function).params)
+        if one is None or not one.params and count:
+            raise Bad(f"parameter {word} of {name}: the module doesn't say how parameters are called; compile with -g, or give its number")
+        names = [told.name for told in one.params]
+        if names.count(word) != 1:
+            raise Bad(f"{name} has no parameter {word}{near(word, names) or ', but ' + (', '.join(names) or 'none')}")
+        at, told = names.index(word), one.params[names.index(word)]
+        local = told.local if told.local is not None and told.local < count else None
+        if told.is_pointer:
+            number = at if len(names) == count else "from 0"
+            raise Bad(f"{word} of {name} is a pointer: this would declare the address secret, not what stands there. For that: BLADE_SECRET_MEMORY "
+                      f"(or give the number, {number}, where the address itself is secret)")
+        if told.is_struct and local is None:
+            # One of a single number is handed over as that.
+            raise Bad(f"{word} of {name} is a struct by value, of which the module gets the address or a part: give its members as parameters, "
+                      "or declare the memory by BLADE_SECRET_MEMORY")
+        return self.by_place(one, at, local, count)
+
+    def by_place(self, one: Subprogram, at: int, local: Optional[int], count: int) -> int:
+        """Which parameter of the module the one at a place in C is: by its local, else by order, where that can be told."""
+        if len(one.params) == count and local in (None, at):
+            return at
+        if local is not None and len(one.params) != count:
+            return local
+        if local is None and one.gives_struct and len(one.params) + 1 == count and not self.module.type_of(one.function).results:
+            # Behind the address of the result.
+            return at + 1
+        raise Bad(f"which parameter of the module {one.params[at].name} of {one.name} is can't be told ({len(one.params)} in C, {count} in the module: "
+                  "a struct by value, or one that clang took apart): give its number")
+
+    def has_line(self, defined: Subprogram, one: Declared) -> bool:
+        """Whether the unit that defines a function has a line. clang may call the unit by a whole path where it was given a part."""
+        folder = self.folders.get(defined.unit, "")
+        units = {os.path.normpath(os.path.join(folder, unit)) for unit in one.units}
+        return INCLUDED in one.units or os.path.normpath(defined.path) in units
+
+    def entry(self, one: Declared) -> Entry:
+        if KINDS[one.kind].names[0] != "function":
+            return one.kind, (number_of(self.module, KINDS[one.kind].names[0], one.name),)
+        function, known = self.function(one.name, one.where)
+        defined = next((it for it in known if it.function == function), None)
+        if defined is None:
+            raise Bad(f"{self.module.function_name(function)} has no DWARF, so nobody can tell whether the unit that defines it has this line: compile with -g")
+        if not self.has_line(defined, one):
+            raise Bad(f"{one.name} is defined in {defined.unit}, which doesn't have this line, so it may be inlined there, where nothing is declared: "
+                      "have that unit include it (-include FILE.h does without a change)")
+        calls = copies(self.told, function)
+        if one.kind == "secret-param" and calls:
+            raise Bad(f"{one.name} is inlined at {calls[0].path}:{calls[0].line}, and what it is given there isn't declared secret, {KEEP}")
+        return one.kind, (function, self.parameter(function, defined, one.which) if one.kind == "secret-param" else int(one.which))
+
+
+def copies(told: Sequence[Subprogram], function: int) -> List[Call]:
+    """Where a function was inlined, as far as DWARF shows it: of a copy of which no instruction is left it says nothing."""
+    return list(dict.fromkeys(call for it in told if it.function == function for call in it.inlined))
+
+
+def of_source(module: Module) -> Labelled:
+    """What the source declares."""
+    lines, found, errors = declared(module), [], []
+    resolver = Resolver(module) if lines else None
+    for one in lines:
+        try:
+            entry = resolver.entry(one)
+            if entry not in [other for other, _ in found]:
+                check(module, [other for other, _ in found] + [entry])
+                found.append((entry, resolver.place(one)))
+        except Bad as bad:
+            errors.append(f"{resolver.place(one)}: error: {bad} [blade-label]")
+    return Labelled(found, errors, [])
+
+
+def numbered(module: Module, words: Sequence[str]) -> List[str]:
+    """Words with the numbers of parameters in place of their names in C."""
+    made, resolver = list(words), None
+    for at in range(len(made) - 2):
+        if made[at] == "secret-param" and not made[at + 2].isdigit():
+            resolver = resolver or Resolver(module)
+            function = number_of(module, "function", made[at + 1])
+            made[at + 2] = str(resolver.parameter(function, next((one for one in resolver.told if one.function == function), None), made[at + 2]))
+    return made
+
+
+def labels_of(module: Module, words: Sequence[str] = ()) -> Labelled:
+    """What the source declares, and what words declare besides."""
+    found, errors, warnings = of_source(module)
+    by_source = [entry for entry, _ in found]
+    by_words = [entry for entry in entries_in(module, numbered(module, words)) if entry not in by_source]
+    check(module, by_source + by_words)
+    params = [numbers[0] for kind, numbers in by_words if kind == "secret-param"]
+    told = subprograms(module) if params else []
+    for function in dict.fromkeys(params):
+        name = module.function_name(function)
+        warnings += [f"{call.path}:{call.line}:{call.column}: warning: {name} is inlined here, in {call.caller}, and what it is given isn't declared secret, {KEEP} "
+                     "[blade-inlined]" for call in copies(told, function)]
+    return Labelled(found + [(entry, "") for entry in by_words], errors, warnings)
+
+
+def with_source(module: Module, words: Sequence[str], replace: bool = False, unlabelled: bool = False) -> Tuple[bytes, Labelled]:
+    """The module with the labels of its source and of words, which stand where nothing is wrong."""
+    if is_labelled(module) and not replace:
+        raise Bad("the module has a section blade.labels already: --replace, or --remove it")
+    found = labels_of(module, words)
+    if not found.entries and not found.errors and not unlabelled:
+        raise Bad(NOTHING)
+    return without_labels(module) + section_of([entry for entry, _ in found.entries]), found

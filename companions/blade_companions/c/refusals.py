@@ -1,0 +1,166 @@
+"""What clang, the linker and the program refuse, where it stands in C, and what to do about it. Licence: public domain (CC0)."""
+from __future__ import annotations
+
+import re
+from typing import Iterable, List, NamedTuple, Optional
+
+from ..formats.reading import Reader
+from .tools import INCLUDE
+from ..formats.module import FUNCTION, GLOBAL, MEMORY, TABLE, Import, Module
+
+FLOAT_TYPES = (0x7C, 0x7D)
+FLOATS = frozenset([0x2A, 0x2B, 0x38, 0x39, 0x43, 0x44, *range(0x5B, 0x67), *range(0x8B, 0xA7), *range(0xA8, 0xAC), *range(0xAE, 0xC0)])
+BULK, CONVERSIONS = 0xFC, 8  # behind the prefix stand first so many conversions of floats
+OTHERS = {0xFD: "a vector", 0xFE: "an atomic access", 0x12: "a tail call", 0x13: "a tail call", 0xD0: "a reference", 0xD1: "a reference", 0xD2: "a reference",
+          0x25: "a table access", 0x26: "a table access", 0x1C: "a select with a type", 0x06: "an exception", 0x07: "an exception", 0x08: "an exception"}
+BLOCKS, END, BR_TABLE = (0x02, 0x03, 0x04), 0x0B, 0x0E
+ONE_NUMBER = frozenset([0x0C, 0x0D, 0x10, 0x20, 0x21, 0x22, 0x23, 0x24, 0x3F, 0x40])
+DENSE = 200  # a switch of more cases is the likely reason of deep nesting
+SORTS = {FUNCTION: "function", TABLE: "table", MEMORY: "memory", GLOBAL: "global"}
+
+
+class Refusal(NamedTuple):
+    """The function, the place in the file, and what is said; without a place -1."""
+
+    function: int
+    place: int
+    text: str
+
+
+class Body:
+    """Of a function's code: how deep it nests and where, how many locals it has, its longest br_table, and its first refused instruction."""
+
+    def __init__(self, module: Module, function: int, start: int, end: int) -> None:
+        self.function, self.start = function, start
+        self.deepest, self.depth, self.most_depth = start, 1, 1
+        self.arms, self.switch = 0, start
+        self.refused: Optional[Refusal] = None
+        self.reader = Reader(module.data, start, end)
+        kind = module.type_of(function)
+        self.locals = len(kind.params)
+        self.is_float = any(one in FLOAT_TYPES for one in kind.params + kind.results)
+        for _ in range(self.reader.number()):
+            self.locals += self.reader.number()
+            self.is_float |= self.reader.byte() in FLOAT_TYPES
+        while self.reader.place < end and not self.refused:
+            self.instruction()
+        if self.is_float and not self.refused:
+            self.refuse(start, "a parameter, a result or a local that is a float")
+
+    def refuse(self, place: int, text: str) -> None:
+        self.refused = Refusal(self.function, place, text)
+
+    def instruction(self) -> None:
+        reader = self.reader
+        place, code = reader.place, reader.byte()
+        if code in FLOATS:
+            self.refuse(place, "an instruction of floats")
+        elif code == BULK:
+            self.refuse(place, "an instruction of floats" if reader.number() < CONVERSIONS else "an operation on whole memories")
+        elif code in OTHERS:
+            self.refuse(place, OTHERS[code])
+        elif code in BLOCKS:
+            reader.signed()
+            self.depth += 1
+            if self.depth > self.most_depth:
+                self.most_depth, self.deepest = self.depth, place
+        elif code == END:
+            self.depth -= 1
+        elif code == BR_TABLE:
+            arms = len(reader.many(reader.number))
+            reader.number()
+            if arms > self.arms:
+                self.arms, self.switch = arms, place
+        else:
+            self.immediates(code)
+
+    def immediates(self, code: int) -> None:
+        reader = self.reader
+        if 0x28 <= code <= 0x3E or code == 0x11:
+            reader.number(), reader.number()
+        elif code in ONE_NUMBER:
+            reader.number()
+        elif code in (0x41, 0x42):
+            reader.signed()
+
+
+def bodies_of(module: Module) -> List[Body]:
+    imported = len(module.imported(FUNCTION))
+    return [Body(module, imported + at, start, end) for at, (start, end) in enumerate(module.bodies)]
+
+
+def refusal(module: Module, said: str) -> Refusal:
+    """Where what the program said of a module stands, and what to do."""
+    kind, _, rest = said.partition(": ")
+    if kind in ("unsupported", "malformed"):
+        return unsupported(module)
+    if kind == "limit":
+        return above(module, *rest.split()[:2])
+    if kind == "link" and rest.endswith(("unknown", "mismatch")):
+        return not_given(module.imports[int(rest.split()[-2])], rest.endswith("mismatch"))
+    return Refusal(-1, -1, "see docs/CLI.md, exit statuses [blade-refused]")
+
+
+def unsupported(module: Module) -> Refusal:
+    if any(section.number == 8 for section in module.sections):
+        return Refusal(-1, -1, "the module has a start function, which blade doesn't take: export it and have it called (constructors of C++ and shared "
+                       "memories make one) [blade-start]")
+    first = next((one.refused for one in bodies_of(module) if one.refused), None)
+    if first is None:
+        return Refusal(-1, -1, "something of a later WebAssembly stands outside of the functions [blade-instruction]")
+    if "float" in first.text:
+        return first._replace(text=f"{first.text}, which blade doesn't take: compute with integers [blade-float]")
+    return first._replace(text=f"{first.text}, which blade doesn't take: compile all with -mcpu=mvp alone, as blade-cc does [blade-instruction]")
+
+
+def above(module: Module, quantity: str, value: str) -> Refusal:
+    """What is above a limit."""
+    bodies = bodies_of(module)
+    if quantity == "nesting":
+        deep = max(bodies, key=lambda one: one.most_depth)
+        why = f"a switch of {deep.arms} cases" if deep.arms > DENSE else "deeply nested code"
+        place = deep.switch if deep.arms > DENSE else deep.deepest
+        return Refusal(deep.function, place, f"{why} opens {value} blocks at once, and 256 are the most: use a table, or two switches [blade-nesting]")
+    if quantity == "targets":
+        wide = max(bodies, key=lambda one: one.arms)
+        return Refusal(wide.function, wide.switch, f"a switch of {wide.arms} cases, and 1,024 are the most: use a table, or two switches [blade-nesting]")
+    if quantity == "locals":
+        most = max(bodies, key=lambda one: one.locals)
+        return Refusal(most.function, most.start, f"{most.locals} locals (behind wasm-opt --ssa), and 4,096 are the most: split the function, or unroll "
+                       "less [blade-locals]")
+    remedy = {"memory": "give fewer pages by --memory", "reserve": "give fewer pages by --memory", "module": "leave out what isn't needed: -Os, fewer exports",
+              "commands": "leave out what isn't needed: -Os, fewer exports", "functions": "export less by --export NAME"}.get(quantity, "docs/CLI.md, limits")
+    return Refusal(-1, -1, f"{quantity} {value} is above the limit: {remedy} [blade-limit]")
+
+
+def not_given(one: Import, is_mismatch: bool) -> Refusal:
+    if one.module in ("ledger", "vault"):
+        return Refusal(-1, -1, f"the {SORTS[one.sort]} {one.name} is imported from {one.module}: compile and link with --{one.module} [blade-import]")
+    why = "has another type there" if is_mismatch else "no module gives"
+    more = ": wasi-libc asks the system for it, for input, output or the clock" if one.module.startswith("wasi") else ""
+    return Refusal(-1, -1, f"the {SORTS[one.sort]} {one.name} is imported from {one.module}, which {why}{more}: give a file that defines it, or leave out what "
+                   "uses it [blade-import]")
+
+
+def about_headers(errors: str) -> List[str]:
+    """What to do about headers that clang doesn't find, and about a clang that can't make WebAssembly."""
+    missing = dict.fromkeys(re.findall(r"fatal error: '([^']+)' file not found", errors))
+    told = [f"blade-cc: note: {name}: {INCLUDE}/freestanding has what blade-cc has of a C library; apt-get install wasi-libc has more, and -I names folders"
+            for name in missing]
+    if "No available targets" in errors or "unable to create target" in errors:
+        told.append("blade-cc: note: this clang lacks WebAssembly: apt-get install clang")
+    return told
+
+
+def about_symbols(missing: Iterable[str]) -> List[str]:
+    """What to do about names that the linker doesn't find."""
+    told = []
+    for name in sorted(missing):
+        if re.fullmatch(r"__\w*?(mul|div|mod|ashl|ashr|lshr)\w*t[if]\d|__multi3", name):
+            told.append(f"{name} is made of __int128: apt-get install libclang-rt-14-dev-wasm32 (or of your clang's version), or use smaller products")
+        elif re.fullmatch(r"__\w+(sf|df|tf)\w*\d?", name):
+            told.append(f"{name} is made of floats, which blade doesn't take")
+        else:
+            told.append(f"{name} stands in no file that was given: name its file; of the C library blade-cc has memcpy, memmove, memset and memcmp, and "
+                        "apt-get install wasi-libc has the rest")
+    return [f"blade-cc: note: {one}" for one in told]

@@ -1,0 +1,296 @@
+"""From C to a verdict in one command: compiles, links, labels, hardens, verifies, and tells by lines of C where a secret goes. It runs clang, wasm-ld,
+wasm-opt and blade; -v shows how. Licence: public domain (CC0).
+
+    blade-cc [WORDS] FILE.c .. [-o OUT]        writes OUT/ (NAME.blade): NAME.wasm, labelled; NAME.img, NAME.json; report.txt, problems.json, NAME.sarif
+    blade-cc [WORDS] FILE.o .. -o NAME.wasm    the same, with the rest in NAME.blade/: for make and CMake
+    blade-cc [WORDS] -c FILE.c -o FILE.o       compiles alone
+
+WORDS are clang's and, behind -Wl, wasm-ld's. Besides:
+    --label 'KIND NAME ..'   labels as blade-label takes them, beside those of blade.h in the sources
+    --ledger, --vault        with -DLEDGER or -DVAULT, and the module of the accessors
+    --memory PAGES           so many pages of memory, first and last (3, or as many as the data takes and one)
+    --export NAME            exports this function, and only such (all that the objects give to others, where the code doesn't say)
+    --counts [EXPORT=]START  sets protects by the counts of a run from a start file; may be given again
+    --start [EXPORT=]START   after a no, looks for two runs from a start file that show the leak, for ten seconds (blade-witness)
+    --unlabelled             nothing is declared secret, and that is meant
+    --no-fail                status 0 where the verdict is no, and what is made is kept all the same
+    --limit N                at most so many warnings (20)
+    --name NAME              the module's name (that of OUT.wasm, or of the only file)
+    --blade PROGRAM          the program (BLADE, else the one of this repository or release, else blade)
+    -v                       shows each command, as it could be typed
+
+OUT is a file where it has an ending, or where nothing but objects is given; a folder by a / at its end, or else. Where the verdict is no, what is made stands
+in OUT/refused/ alone, and the folder is marked as old, so that make doesn't take it for made.
+Status: 0 constant-time; 1 not; 2 usage; 3 clang or the linker failed; 4 a tool is missing or too old; 5 the labels aren't right, or there are none;
+6 blade refuses the module, or a run for --counts fails; 7 two tools don't agree."""
+from __future__ import annotations
+
+import os
+import shlex
+import sys
+from collections import Counter
+from typing import List, Optional, Sequence, Tuple
+
+from .verdict import compare, diagnostics, sarif, text
+from .c.arguments import BUILD, DISAGREE, LABELS, NO, REFUSED, USAGE, YES, Asked, Stop, asked_by
+from .c.build import Builder
+from .verdict.causes import causes_of
+from .ending import ended
+from .verdict.flow import find
+from .witnesses.hunting import after_no, summary
+from .formats.image import read_image
+from .formats.labels import entries_of
+from .c.lines import Lines, chosen
+from .formats.lowering import lower
+from .formats.memories import pages_of, with_pages
+from .c.paths import shown
+from .formats.certificate import protects_of, read_certificate
+from .formats.reading import Bad, read_file
+from .c.refusals import refusal
+from .c.declarations import NOTHING, left_out, with_source
+from .c.sources import Sources
+from .c.tools import HERE, INCLUDE, Ran, Runner, found, program, written_to
+from .formats.module import FUNCTION, Module, module_of, read_module
+from .printing import say
+
+STEPS = "4000000000"  # the most of a run that is counted
+MADE = ("wasm", "img", "json")  # of the module: what blade-cc makes where the verdict is yes
+
+
+class Driver:
+    """The steps, in a folder: build/ has what is on the way, refused/ what isn't judged yet or isn't constant-time."""
+
+    def __init__(self, asked: Asked) -> None:
+        self.asked, self.runner = asked, Runner(asked.verbose)
+        self.program = program(asked.blade)
+        self.module = asked.name or asked.base
+        out = asked.out or f"{self.module}.blade/"
+        # A linker's output is a file, and so is what has an ending.
+        is_file = not out.endswith("/") and not os.path.isdir(out) and bool(os.path.splitext(out)[1] or not asked.sources)
+        self.file = out if is_file else ""
+        self.folder = f"{os.path.splitext(out)[0]}.blade" if self.file else out.rstrip("/")
+        if self.file and not asked.name:
+            self.module = os.path.splitext(os.path.basename(out))[0]
+        self.aside = f"{self.folder}/refused"
+        self.explained_by: List[str] = []  # further words for blade-explain
+        self.builder = Builder(asked, self.runner, f"{self.folder}/build")
+
+    def made(self) -> List[str]:
+        """The names of what is made in the folder where the verdict is yes."""
+        return [f"{self.module}.{end}" for end in MADE] + [f"{self.asked.way}.wasm"] * bool(self.asked.way)
+
+    def clear(self) -> None:
+        """What an earlier call wrote says nothing of this one, and make would take it for made."""
+        reports = [f"{self.module}.sarif", "report.txt", "verify.txt", "problems.json"]
+        for path in [f"{self.folder}/{name}" for name in self.made() + reports] + [f"{self.aside}/{name}" for name in self.made()] + [self.file]:
+            if path and os.path.exists(path):
+                os.remove(path)
+        for folder in (f"{self.folder}/build", self.aside):
+            os.makedirs(folder, exist_ok=True)
+
+    def all(self) -> int:
+        self.clear()
+        for name in ["clang"] * bool(self.asked.sources) + ["wasm-ld", "wasm-opt", "llvm-symbolizer"]:
+            found(name)
+        objects = self.builder.objects()
+        linked = self.builder.link(objects)
+        wrong = left_out(linked, [one for one in objects + self.builder.archives() if os.path.exists(one)])
+        if wrong:
+            raise Stop(LABELS, *wrong)
+        modules = self.accessors(self.label(self.builder.split(self.module)))
+        report, verified = self.harden(modules)
+        return self.judge(modules, report, verified)
+
+    def label(self, module: Module) -> str:
+        asked, to = self.asked, f"{self.aside}/{self.module}.wasm"
+        # Of the vault the secrets stand in its own module; where nothing at all is declared, that is said with the verdict.
+        self.runner.show([os.path.join(HERE, "blade-label"), module.path, to, *asked.labels, "--unlabelled"])
+        try:
+            made, told = with_source(module, asked.labels, False, True)
+        except Bad as bad:
+            raise Stop(LABELS, f"blade-cc: error: {bad} [blade-label]") from None
+        for line in told.warnings:
+            say(line, sys.stderr)
+        if told.errors:
+            raise Stop(LABELS, *told.errors)
+        written_to(to, made)
+        return to
+
+    def accessors(self, labelled: str) -> List[str]:
+        """The module, and in front of it that of the accessors with as many pages."""
+        way = self.asked.way
+        if not way:
+            return [labelled]
+        plain, to = os.path.join(INCLUDE, "accessors.wasm"), f"{self.aside}/{way}.wasm"
+        words = ["secret-memory", "0"] if way == "vault" else []
+        self.runner.show([os.path.join(HERE, "blade-label"), plain, to, "--pages-of", labelled, "--unlabelled", *words])
+        made = with_pages(read_module(plain), pages_of(read_module(labelled)))
+        written_to(to, with_source(module_of(made, to), words, False, True)[0])
+        return [to, labelled]
+
+    def blade(self, *words: str, to: str = "") -> Ran:
+        """Runs the program. What its launcher says goes on to who asked: it may build for an hour."""
+        return self.runner.run([self.program, *words], to, None)
+
+    def harden(self, modules: List[str]) -> Tuple[str, str]:
+        """The report, and what verify says."""
+        image, certificate = f"{self.aside}/{self.module}.img", f"{self.aside}/{self.module}.json"
+        done = self.blade("harden", image, certificate, *modules, *self.counts(modules), to=f"{self.folder}/report.txt")
+        if done.status:
+            raise Stop(REFUSED, *self.refused(done, modules[-1]))
+        verified = self.blade("verify", image, certificate, to=f"{self.folder}/verify.txt")
+        if verified.status or verified.out.splitlines()[:2] != ["certificate yes", "stable yes"]:
+            raise Stop(DISAGREE, f"blade-cc: error: verify doesn't agree with harden: {verified.out.strip() or verified.status}")
+        return done.out, verified.out
+
+    def counts(self, modules: List[str]) -> List[str]:
+        """The words for harden, of runs from the start files."""
+        if not self.asked.counts:
+            return []
+        image, total = f"{self.folder}/build/{self.module}.lowered.img", f"{self.folder}/build/{self.module}.counts"
+        done = self.blade("lower", image, *modules)
+        if done.status:
+            raise Stop(REFUSED, *self.refused(done, modules[-1]))
+        files = [self.counted(image, one, f"{self.folder}/build/{at}.counts", modules[-1]) for at, one in enumerate(self.asked.counts)]
+        awk = '$1 == "site" { n[$2] += $3 } END { for (p in n) print "site", p, n[p] }'
+        self.runner.show_text(f"(head -1 {shlex.quote(files[0])}; awk {shlex.quote(awk)} {shlex.join(files)} | sort -k 2n) > {shlex.quote(total)}")
+        written_to(total, summed([read_file(one).decode() for one in files]).encode())
+        return ["--counts", total]
+
+    def counted(self, image: str, given: str, to: str, module: str) -> str:
+        """The count file of a run from a start file, given as EXPORT=FILE or, where there is one export, as FILE."""
+        name, _, start = given.rpartition("=")
+        exports = [told for sort, told in read_module(module).exports if sort == FUNCTION]
+        if not name and len(exports) != 1:
+            raise Stop(USAGE, f"blade-cc: error: --counts {given}: EXPORT=FILE says which function runs: {', '.join(exports[:8])}")
+        done = self.blade("run", image, f"{self.module}/{name or exports[0]}", start, "--steps", STEPS, "--counts", to)
+        if done.status:
+            raise Stop(REFUSED, f"blade-cc: error: the run from {start} ends with: {done.out.splitlines()[0] if done.out else done.status}")
+        return to
+
+    def refused(self, done: Ran, path: str) -> List[str]:
+        """What the program refused, by the line of C where that is known."""
+        module, said = read_module(path), done.out.strip() or f"status {done.status}"
+        try:
+            function, place, why = refusal(module, said)
+        except (Bad, IndexError, ValueError):
+            return [f"blade-cc: error: blade refuses {path}: {said} (docs/CLI.md, exit statuses)"]
+        if function < 0:
+            return [f"blade-cc: error: {why}", f"blade-cc: note: blade says: {said}"]
+        where = diagnostics.spelled(line_of(module, place), f"{shown(path)}: offset {place:#x}")
+        return [f"{where}: error: {why}", f"{where}: note: in {module.function_name(function)}; blade says: {said}"]
+
+    def judge(self, modules: List[str], report: str, verified: str) -> int:
+        """Tells the verdict and the places, and keeps what is made where it may be shipped."""
+        is_yes = verified.endswith("safe yes\n") and report.endswith("constant-time yes\n")
+        if is_yes and not self.asked.unlabelled and not is_labelled(modules):
+            raise Stop(LABELS, f"blade-cc: error: {self.module}: {NOTHING} [blade-unlabelled]")
+        is_kept = is_yes or self.asked.no_fail
+        place = self.folder if is_kept else self.aside
+        self.move(self.aside, place)
+        modules = [f"{place}/{os.path.basename(path)}" for path in modules]
+        told, lines, differ = self.explained(modules, f"{place}/{self.module}", report)
+        if differ:
+            self.move(place, self.aside)
+            raise Stop(DISAGREE, *(f"blade-cc: error: blade-explain doesn't agree with the program: {one}" for one in differ))
+        evidence = None
+        if self.asked.start and not is_yes:
+            evidence, self.explained_by = after_no(self, told, lines, modules, f"{place}/{self.module}")
+        self.tell(told, lines, modules, f"{place}/{self.module}")
+        if is_kept and self.file:
+            written_to(self.file, read_file(modules[-1], "module"))
+        protects = next(line for line in report.splitlines() if line.startswith("protects "))
+        print(f"{self.module}: {text.verdict_text(told.found, (), evidence)}; {protects}; {text.declared_text(told.found).partition('. So')[0]}")
+        for line in summary(evidence, lines) if evidence else ():
+            print(f"{self.module}: {line}")
+        return YES if is_kept else NO
+
+    def move(self, of: str, to: str) -> None:
+        for name in self.made() if of != to else []:
+            self.runner.show(["mv", f"{of}/{name}", f"{to}/{name}"])
+            os.replace(f"{of}/{name}", f"{to}/{name}")
+
+    def explained(self, modules: List[str], made: str, report: str) -> Tuple[diagnostics.Told, Lines, List[str]]:
+        """What is to be told of an image; and where that isn't what the program says."""
+        image, functions = read_image(read_file(f"{made}.img")), lower([read_module(path) for path in modules])
+        differ = compare.positions_differ(image, functions)
+        lines = Lines([] if differ else functions, Sources([".", *{os.path.dirname(os.path.abspath(one)) for one in self.asked.sources}]))
+        seen, protects = find(image), protects_of(image, read_certificate(read_file(f"{made}.json")))
+        differ += compare.report_differs(seen, protects, report)
+        return diagnostics.told_of(seen, lines, causes_of(seen, lines), protects), lines, differ
+
+    def tell(self, told: diagnostics.Told, lines: Lines, modules: List[str], made: str) -> None:
+        """The places: as text, as JSON and as SARIF."""
+        problems, log = f"{self.folder}/problems.json", f"{self.folder}/{self.module}.sarif"
+        self.runner.show([os.path.join(HERE, "blade-explain"), f"{made}.img", *modules, "--certificate", f"{made}.json", "--report",
+                          f"{self.folder}/report.txt", "--lines", "--json", problems, "--sarif", log, *self.explained_by])
+        written_to(problems, sarif.as_json(told, f"{made}.img", modules).encode())
+        written_to(log, sarif.as_sarif(told, f"{made}.img", modules, lines, os.getcwd(), sarif.version()).encode())
+        for line in diagnostics.as_text(told, shown(f"{made}.img"), self.asked.limit, lines):
+            say(line, sys.stderr)
+
+
+def is_labelled(paths: Sequence[str]) -> bool:
+    return any(entries_of(read_module(path)) for path in paths)
+
+
+def summed(texts: Sequence[str]) -> str:
+    """Count files of one program as one: of each position the counts are added."""
+    total: Counter = Counter()
+    for line in (line for one in texts for line in one.splitlines() if line.startswith("site ")):
+        _, position, count = line.split()
+        total[int(position)] += int(count)
+    return "\n".join([texts[0].splitlines()[0]] + [f"site {position} {total[position]}" for position in sorted(total)]) + "\n"
+
+
+def line_of(module: Module, place: int):
+    """The line of C of a place in a module's file."""
+    lines = Lines([])
+    if lines.tool and module.has_lines:
+        lines.look_up(module.path, [place - module.code])
+    return lines.known.get((module.path, place - module.code), chosen([]))
+
+
+def mark(driver: Optional[Driver]) -> None:
+    """Where a folder is make's target, one that isn't made is older than all that it is made of."""
+    if driver and not driver.file and os.path.isdir(driver.folder):
+        os.utime(driver.folder, (0, 0))
+
+
+def write_errors(driver: Optional[Driver], stop: Stop) -> None:
+    """A log of errors for editors, where the work ended before the places were told."""
+    if driver and stop.lines and os.path.isdir(driver.folder):
+        written_to(f"{driver.folder}/{driver.module}.sarif", sarif.errors_as_sarif(stop.lines, os.getcwd(), sarif.version()).encode())
+
+
+def status_of(words: Sequence[str], usage: str) -> int:
+    if not words or words in (["--help"], ["-h"]):
+        print(usage, file=sys.stderr if not words else sys.stdout)
+        return USAGE if not words else YES
+    driver, status = None, BUILD
+    try:
+        asked = asked_by(words)
+        if asked.alone:
+            return Builder(asked, Runner(asked.verbose), "").alone()
+        if not asked.sources and not asked.objects:
+            raise Stop(USAGE, "blade-cc: error: no file is given")
+        driver = Driver(asked)
+        status = driver.all()
+    except Stop as stop:
+        write_errors(driver, stop)
+        for line in (line for one in stop.lines for line in one.split("\n")):
+            say(line, sys.stderr)
+        status = stop.status
+    finally:
+        if status:
+            mark(driver)
+    return status
+
+
+def main(words: Sequence[str]) -> int:
+    # Where nobody reads on, a no still isn't a yes.
+    return ended("blade-cc: error", lambda: status_of(words, __doc__ or ""), BUILD, BUILD)
+
+
+if __name__ == "__main__":
+    sys.exit(main(sys.argv[1:]))

@@ -1,0 +1,68 @@
+"""How a companion ends: with a status and at most one line on what it couldn't do. Licence: public domain (CC0)."""
+from __future__ import annotations
+
+import os
+import sys
+from typing import Callable, Optional
+
+from .formats.reading import Bad
+from .printing import say
+
+DONE, UNREAD, INTERRUPTED = 0, 3, 130
+
+
+def why(fault: BaseException) -> str:
+    """A fault in words."""
+    if isinstance(fault, OSError):
+        return f"{fault.filename}: {fault.strerror}" if fault.filename and fault.strerror else fault.strerror or str(fault)
+    if isinstance(fault, Bad):
+        return str(fault) or "a file ends too early"
+    if isinstance(fault, MemoryError):
+        return "memory ran out"
+    return f"what is read here isn't as it should be ({type(fault).__name__})"
+
+
+def leave(*streams: int) -> None:
+    """Nobody reads on: what is still to be written is dropped."""
+    nothing = os.open(os.devnull, os.O_WRONLY)
+    for stream in streams:
+        os.dup2(nothing, stream)
+
+
+def flush() -> None:
+    if sys.stdout:  # it may be closed from the first
+        sys.stdout.flush()
+
+
+def status_of(name: str, work: Callable[[], Optional[int]], unread: int) -> int:
+    try:
+        try:
+            status = work()
+        except SystemExit as end:
+            status = end.code
+        flush()
+        return status or DONE
+    except (BrokenPipeError, KeyboardInterrupt):
+        raise
+    except Exception as fault:  # whatever a file has led to
+        say(f"{name}: {why(fault)}", sys.stderr)
+    try:
+        flush()
+    except OSError:
+        leave(1)
+    return unread
+
+
+def ended(name: str, work: Callable[[], Optional[int]], unread: int = UNREAD, closed: int = DONE) -> int:
+    """The status that work comes to. A file that isn't as it should be is told in one line, with a status of its own; so is a pipe that is closed, which is no
+    fault unless it is said so."""
+    for stream in (sys.stdout, sys.stderr):
+        if hasattr(stream, "reconfigure"):
+            stream.reconfigure(errors="backslashreplace")
+    try:
+        return status_of(name, work, unread)
+    except BrokenPipeError:
+        leave(1, 2)
+        return closed
+    except KeyboardInterrupt:
+        return INTERRUPTED

@@ -1,0 +1,158 @@
+"""The section blade.labels of a module: what is secret there, and what has to stay public. Licence: public domain (CC0)."""
+from __future__ import annotations
+
+from dataclasses import dataclass
+from typing import Dict, List, Sequence, Tuple
+
+from .reading import Bad, Reader
+from .module import FUNCTION, GLOBAL, MEMORY, Module
+
+NAME = "blade.labels"
+
+
+@dataclass(frozen=True)
+class Kind:
+    """A kind of entry: its byte, what its numbers name, and whether it needs version 2."""
+
+    code: int
+    names: Tuple[str, ...]
+    is_demand: bool
+
+
+KINDS: Dict[str, Kind] = {
+    "secret-param": Kind(0, ("function", "parameter"), False),
+    "secret-global": Kind(1, ("global",), False),
+    "secret-memory": Kind(2, ("memory",), False),
+    "public-result": Kind(3, ("function", "result"), True),
+    "public-global": Kind(4, ("global",), True),
+}
+Entry = Tuple[str, Tuple[int, ...]]
+
+
+def leb(number: int) -> bytes:
+    """A number as unsigned LEB128, in its shortest spelling."""
+    spelled = []
+    while True:
+        number, low = number >> 7, number & 0x7F
+        spelled.append(low | (0x80 if number else 0))
+        if not number:
+            return bytes(spelled)
+
+
+def section_of(entries: Sequence[Entry]) -> bytes:
+    """The custom section of entries."""
+    version = 2 if any(KINDS[kind].is_demand for kind, _ in entries) else 1
+    spelled = b"".join(bytes([KINDS[kind].code]) + b"".join(map(leb, numbers)) for kind, numbers in entries)
+    contents = leb(len(NAME)) + NAME.encode() + bytes([version]) + leb(len(entries)) + spelled
+    return b"\0" + leb(len(contents)) + contents
+
+
+def is_labelled(module: Module) -> bool:
+    return any(section.name == NAME for section in module.sections)
+
+
+def without_labels(module: Module) -> bytes:
+    """The bytes of the module without such sections."""
+    kept = [module.data[section.start : section.end] for section in module.sections if section.name != NAME]
+    return module.data[:8] + b"".join(kept)
+
+
+def entries_of(module: Module) -> List[Entry]:
+    """The entries that stand in the module."""
+    found: List[Entry] = []
+    for section in module.sections:
+        if section.name == NAME:
+            reader = Reader(module.data, section.contents, section.end)
+            reader.text(), reader.byte()
+            found += reader.many(lambda: read_entry(reader))
+    return found
+
+
+def read_entry(reader: Reader) -> Entry:
+    code = reader.byte()
+    kind = next((name for name, kind in KINDS.items() if kind.code == code), None)
+    if kind is None:
+        raise Bad(f"the labels have an entry of kind {code}")
+    return kind, tuple(reader.number() for _ in KINDS[kind].names)
+
+
+def number_of(module: Module, what: str, word: str) -> int:
+    """The index that a word spells, or that a name has."""
+    if word.isascii() and word.isdigit():
+        return int(word)
+    named = {"function": (module.names, FUNCTION), "global": (module.global_names, GLOBAL), "memory": ({}, MEMORY)}
+    if what not in named:
+        raise Bad(f"no number: {word}")
+    names, sort = named[what]
+    found = {index for index, name in names.items() if name == word}
+    found |= {index for (other, name), index in module.exports.items() if (other, name) == (sort, word)}
+    if len(found) != 1:
+        raise Bad(f"{'no' if not found else 'more than one'} {what} is called {word}")
+    return found.pop()
+
+
+def counts_of(module: Module, kind: str, numbers: Sequence[int]) -> List[Tuple[int, int]]:
+    """Of each number of an entry the least one that it may be, and the one behind the last."""
+    first = KINDS[kind].names[0]
+    sort, count = {"function": (FUNCTION, len(module.functions)), "global": (GLOBAL, len(module.globals)), "memory": (MEMORY, module.memories)}[first]
+    ranges = [(len(module.imported(sort)), count)]
+    if first == "function" and numbers[0] < count:
+        listed = module.type_of(numbers[0])
+        ranges.append((0, len(listed.params if kind == "secret-param" else listed.results)))
+    return ranges
+
+
+def check(module: Module, entries: Sequence[Entry]) -> None:
+    """Refuses what the program would refuse: what doesn't exist, is imported, or is named twice."""
+    seen: Dict[Entry, str] = {}
+    for kind, numbers in entries:
+        told = f"{kind} {' '.join(map(str, numbers))}"
+        for what, number, (least, end) in zip(KINDS[kind].names, numbers, counts_of(module, kind, numbers)):
+            if number >= end:
+                raise Bad(f"{told}: there is no {what} {number}, but {end} of them")
+            if number < least:
+                raise Bad(f"{told}: {what} {number} is imported; label it in its own module")
+        key = ("global" if KINDS[kind].names == ("global",) else kind, numbers)
+        if key in seen:
+            raise Bad(f"{told}: named before, by {seen[key]}")
+        seen[key] = told
+
+
+def entries_in(module: Module, words: Sequence[str]) -> List[Entry]:
+    """The entries that words ask for."""
+    found: List[Entry] = []
+    place = 0
+    while place < len(words):
+        kind = words[place]
+        if kind not in KINDS:
+            raise Bad(f"no kind of entry: {kind}")
+        names = KINDS[kind].names
+        given = words[place + 1 : place + 1 + len(names)]
+        if len(given) < len(names):
+            raise Bad(f"too few numbers behind {kind}")
+        found.append((kind, tuple(number_of(module, what, word) for what, word in zip(names, given))))
+        place += 1 + len(names)
+    return found
+
+
+def labelled(module: Module, words: Sequence[str], replace: bool = False) -> bytes:
+    """The module with the section that words ask for."""
+    if is_labelled(module) and not replace:
+        raise Bad("the module has a section blade.labels already: --replace, or --remove it")
+    entries = entries_in(module, words)
+    check(module, entries)
+    return without_labels(module) + section_of(entries)
+
+
+def listing(module: Module) -> List[str]:
+    """What can be labelled in a module, and what is."""
+    entries = entries_of(module)
+    told = [f"{kind} {' '.join(map(str, numbers))}" for kind, numbers in entries]
+    lines = []
+    for index in range(len(module.imported(FUNCTION)), len(module.functions)):
+        kind = module.type_of(index)
+        lines.append(f"function {index} {module.function_name(index)}: parameters {len(kind.params)}, results {len(kind.results)}")
+    for index in range(len(module.imported(GLOBAL)), len(module.globals)):
+        lines.append(f"global {index} {module.global_names.get(index, '')}".rstrip())
+    lines += [f"memory {index}" for index in range(len(module.imported(MEMORY)), module.memories)]
+    return lines + [f"labelled {one}" for one in told] + ([] if told else ["labelled nothing"])

@@ -1,0 +1,88 @@
+"""Declares what is secret in a module, and what has to stay public: the custom section blade.labels. Licence: public domain (CC0).
+
+    blade-label IN.wasm OUT.wasm [--replace] [--only] [--unlabelled] [--pages-of M.wasm] KIND NAME .. KIND NAME ..
+    blade-label IN.wasm OUT.wasm --remove
+    blade-label IN.wasm --list
+
+KIND NAME .. is secret-param F I, secret-global G, secret-memory M, public-result F I or public-global G. F is a function and G a global, by
+the name that it is exported under or has in the name section, or by its index with imported ones first; I is the index of a parameter
+or result, or the parameter's name in C, M that of a memory. What the C code declares by the macros of blade.h counts, too, unless --only says that it doesn't. No label
+at all is an error, unless --unlabelled says that this is meant. --pages-of gives the memory as many pages as that of M.wasm has: for
+the modules of accessors.
+
+A parameter's label is one of the function's code. Where clang inlines the function there is no such code, and what it is given there is public: keep
+it by __attribute__((noinline)), as the macros do, or declare the parameter of the function that is called from outside.
+
+It ends with 0; 1 where the labels aren't right, and nothing is written; 2 for words that it doesn't know; 3 for files that it can't read or write."""
+import argparse
+import sys
+from typing import Sequence
+
+from .ending import ended
+from .formats.labels import labelled, listing, without_labels
+from .formats.memories import pages_of, with_pages
+from .formats.reading import Bad
+from .c.declarations import NOTHING, with_source
+from .formats.module import module_of, read_module
+from .printing import say
+from .writing import write_file
+
+DONE, WRONG, USAGE = 0, 1, 2
+NOTE = ("blade-label: note: a parameter's label doesn't hold where clang inlined the function: __attribute__((noinline)) keeps it, or declare the "
+        "caller's parameter")
+
+
+def words_of(words):
+    parser = argparse.ArgumentParser(prog="blade-label", usage="see the head of this file, and docs/GUIDE.md, section 2", add_help=False)
+    parser.add_argument("files", nargs="*")
+    for flag in ("--replace", "--only", "--unlabelled", "--remove", "--list"):
+        parser.add_argument(flag, action="store_true")
+    parser.add_argument("--pages-of")
+    return parser.parse_intermixed_args(words)
+
+
+def made_of(asked, module):
+    """The labelled module, and what is to be told: errors, and warnings."""
+    kinds = asked.files[2:]
+    if asked.pages_of:
+        module = module_of(with_pages(module, pages_of(read_module(asked.pages_of))), module.path)
+    try:
+        if asked.remove:
+            return without_labels(module), [], []
+        if asked.only and (kinds or asked.unlabelled):
+            return labelled(module, kinds, asked.replace), [], []
+        if asked.only:
+            return None, [f"blade-label: {NOTHING}"], []
+        made, found = with_source(module, kinds, asked.replace, asked.unlabelled)
+        return made, found.errors, found.warnings + [NOTE] * ("secret-param" in kinds)
+    except Bad as bad:
+        return None, [f"blade-label: {bad}"], []
+
+
+def run(words):
+    if words in (["--help"], ["-h"]):
+        print(__doc__)
+        return DONE
+    asked = words_of(words)
+    if asked.list and len(asked.files) == 1:
+        for line in listing(read_module(asked.files[0])):
+            say(line)
+        return DONE
+    if len(asked.files) < 2 or asked.list or asked.remove and len(asked.files) > 2:
+        print(__doc__, file=sys.stderr)
+        return USAGE
+    made, errors, warnings = made_of(asked, read_module(asked.files[0]))
+    for line in errors + warnings:
+        say(line, sys.stderr)
+    if errors:
+        return WRONG
+    write_file(asked.files[1], made)
+    return DONE
+
+
+def main(words: Sequence[str]) -> int:
+    return ended("blade-label", lambda: run(words))
+
+
+if __name__ == "__main__":
+    sys.exit(main(sys.argv[1:]))

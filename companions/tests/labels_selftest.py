@@ -1,0 +1,58 @@
+"""Tests of blade-label: sections written by hand, words and modules that are refused. Licence: public domain (CC0)."""
+from __future__ import annotations
+
+from blade_companions.formats.labels import entries_of, labelled, section_of, without_labels
+from blade_companions.formats.reading import Bad
+from blade_companions.formats.module import MAGIC, module_of
+
+# A module with one imported function (f 0: no parameter), a function `add` of two i32 to one (1), a memory (0) and globals 0 and 1;
+# the name section calls global 1 `key`.
+PARTS = [
+    "01 0A 02 60 00 00 60 02 7F 7F 01 7F", "02 07 01 01 61 01 62 00 00", "03 02 01 01", "05 03 01 00 01",
+    "06 0B 02 7F 01 41 00 0B 7F 01 41 00 0B", "07 07 01 03 61 64 64 00 01", "0A 06 01 04 00 20 00 0B",
+    "00 0D 04 6E 61 6D 65 07 06 01 01 03 6B 65 79",
+]
+MODULE = MAGIC + b"".join(map(bytes.fromhex, PARTS))
+HEAD = "0C 62 6C 61 64 65 2E 6C 61 62 65 6C 73"
+# Words, and the section that they ask for, written by hand.
+CASES = [
+    ("secret-memory 0", f"00 11 {HEAD} 01 01 02 00"),
+    ("secret-param 1 1", f"00 12 {HEAD} 01 01 00 01 01"),
+    ("secret-param add 0", f"00 12 {HEAD} 01 01 00 01 00"),
+    ("secret-global key", f"00 11 {HEAD} 01 01 01 01"),
+    ("secret-param add 0 public-result add 0", f"00 15 {HEAD} 02 02 00 01 00 03 01 00"),
+    ("public-global 0 secret-memory 0", f"00 13 {HEAD} 02 02 04 00 02 00"),
+    ("", f"00 0F {HEAD} 01 00"),
+]
+# Words that are refused.
+REFUSED = [
+    "secret-param add", "secret-memory -1", "secret-memory 1", "secret-local 0", "0", "secret-memory 0 0", "secret-param add 2", "secret-param 2 0",
+    "secret-param 0 0", "secret-param sub 0", "public-result add 1", "secret-global 2", "secret-global lock", "secret-memory 0 secret-memory 0",
+    "secret-global 1 public-global key",
+]
+UNFIT = [b"", b"\0asm\2\0\0\0", MAGIC + b"\0\5\1", MAGIC + b"\1\x80", MODULE + section_of([])]
+
+
+def is_refused(data: bytes, words: str) -> bool:
+    try:
+        labelled(module_of(data, "m"), words.split())
+    except (Bad, IndexError):
+        return True
+    return False
+
+
+def selftest() -> str:
+    for words, spelled in CASES:
+        given = labelled(module_of(MODULE, "m"), words.split())
+        assert given == MODULE + bytes.fromhex(spelled), (words, given[len(MODULE) :].hex(" "))
+        assert without_labels(module_of(given, "m")) == MODULE, words
+    for words in REFUSED:
+        assert is_refused(MODULE, words), words
+    for data in UNFIT:
+        assert is_refused(data, "secret-memory 0"), data
+    again = labelled(module_of(MODULE + section_of([("secret-memory", (0,))]), "m"), ["secret-global", "0"], True)
+    assert entries_of(module_of(again, "m")) == [("secret-global", (0,))]
+    # A section of that name's length with another name is none.
+    other = MODULE + bytes.fromhex("00 0D 0C 62 6C 61 64 65 2E 73 74 69 63 6B 73")
+    assert labelled(module_of(other, "m"), []) == other + section_of([])
+    return f"blade-label: {len(CASES)} sections, {len(REFUSED)} refused words, {len(UNFIT)} refused modules, 1 replaced"

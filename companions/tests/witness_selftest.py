@@ -1,0 +1,291 @@
+"""Tests of blade-witness: each leak that is known here is found and replayed by the program, and none where the code is constant-time.
+Licence: public domain (CC0)."""
+from __future__ import annotations
+
+import os
+import re
+import shlex
+import subprocess
+from typing import List, NamedTuple, Tuple
+
+from blade_companions.witnesses.directives import last_of
+from blade_companions.formats.image import Command, Function, Image, Memory, Operand
+from blade_companions.witnesses.pairs import Range, Secret, joined, ranges_of, what_changes
+from blade_companions.formats.reading import Bad
+from blade_companions.formats.running import Start
+
+TOP = os.path.dirname(os.path.dirname(os.path.dirname(os.path.realpath(__file__))))
+EXAMPLES, COMPANIONS = f"{TOP}/examples", f"{TOP}/companions"
+NOTHING, WITNESSED, USAGE, UNREAD, SHOWN = range(5)
+LIMIT = "600"  # seconds of a search that has to end by itself, on a machine that does other things too
+HUNT = "6"  # seconds of one that has to find nothing
+
+
+# ---- without the program
+
+
+def tiny() -> Image:
+    """A function of a public and a secret parameter, which tests the public one and, where it isn't 0, the secret one; a secret memory."""
+    p, q = Operand(True, 1), Operand(True, 2)
+    commands = [Command("Trap")] * 7 + [Command("Test", (p,), (), (1,), targets=(8, 9)), Command("Test", (q,), (), (2,), targets=(9, 9)), Command("Ret")]
+    function = Function([False, True], 0, 2, 3, 1, 7, [0x7F, 0x7E])
+    return Image([], [], [Memory(1, 1, True, [(0, bytes(range(16)))])], [function], {0: "m/f"}, {"m/f": 0}, [], {}, commands)
+
+
+def selftest() -> str:
+    image, start = tiny(), Start([5, 1 << 40], [(0, 4, b"\x10\x11"), (0, 5, b"\x22\x23"), (0, 40, b"\x33")])
+    assert list(joined(3, {7, 9, 8, 1})) == [Range(3, 1, 1), Range(3, 7, 3)]
+    ranges = what_changes(image, 0, start, [], [Range(0, 6, 1)])
+    # The secret parameter, of 8 bytes; what the lines give, those that meet as one; without what is kept.
+    assert ranges == [Range(None, 1, 8), Range(0, 4, 2), Range(0, 40, 1)], ranges
+    secret = Secret(image, start, ranges)
+    assert secret.first == (1 << 40).to_bytes(8, "little") + b"\x10\x22\x33"
+    assert secret.text(bytes(8) + b"\xaa\xbb\xcc") == "arg 5\narg 0\nmemory 0 5 2223\nmemory 0 4 aabb\nmemory 0 40 cc\n"
+    assert [secret.name(place) for place in (7, 8, 10)] == ["parameter 1", "memory 0, byte 4", "memory 0, byte 40"]
+    assert what_changes(image, 0, start, [Range(0, 0, 2)], []) == [Range(None, 1, 8), Range(0, 0, 2)]
+    for words in (["0:1"], ["0:1:0"], ["0:-1:2"], ["x:1:2"]):
+        try:
+            assert not ranges_of(words)
+        except Bad:
+            continue
+    # A wrong guess at 7 leads back to 9, and with it what was fetched goes.
+    position, entries = last_of(image, 0, ["fetch 1", "fetch 0", "exec 1", "exec 0", "fetch"], ["none", "none", "none", "rollback 0"])
+    assert (position, [entry.position for entry in entries], entries[0].guess) == (9, [7], None)
+    return "witness_test: what changes, starts, and where a directive stands"
+
+
+# ---- with the program
+
+
+class Leak(NamedTuple):
+    """A search that is known to end in one way: the image and the function in it, the lines of the start file, more words, the status, and what is
+    told of it."""
+
+    image: str
+    export: str
+    start: str
+    words: str = ""
+    status: int = WITNESSED
+    told: Tuple[str, ...] = ()
+
+
+VAULT = "memory 1 0 00112233445566778899aabbccddeeff\n"
+TAGS = f"arg 4096\narg 8192\nmemory 0 4096 {'5a' * 16}\nmemory 0 8192 {'5a' * 16}\n"
+PIECE = f"arg 4096\narg 5000\narg 4\nmemory 0 4096 03000000{'11' * 64}\nmemory 0 5000 aabbccdd\n"
+AT_16 = "arg 3\narg 16\n" + VAULT
+LEAKS = [
+    Leak("lookup", "lookup/lookup", "arg 3\n", told=("address of a load: lookup", "in the order of the program")),
+    Leak("result", "compare/compare", TAGS, status=SHOWN, told=("result 0, which is demanded public: 1 and 0",)),
+    Leak("piece.g", "piece/add", PIECE, told=("piece.c:",)),
+    Leak("index", "index/f", f"arg 4096\narg 4\nmemory 0 4096 {'0102030405060708'}\n", told=("index.c:4", "address of a load")),
+    Leak("frame", "frame/f", f"arg 4096\narg 8192\narg 16\nmemory 0 8192 {'11' * 64}\n", status=SHOWN, told=("which is public",)),
+    Leak("address", "address/f", f"arg 4096\narg 8192\nmemory 0 8192 {'11' * 8}\n", status=SHOWN, told=("which is public",)),
+    Leak("into", "into/f", f"arg 4096\narg 8192\nmemory 1 4096 {'11' * 20}\n", status=SHOWN, told=("which is public",)),
+    *(Leak("guesses.low", f"guesses/{name}", AT_16, "--public", told=("under a wrong guess", "guesses.c:"))
+      for name in ("address", "branch", "divide", "call")),
+    Leak("guesses.low", "guesses/scaled", "arg 3\narg 4\n" + VAULT, "--public", told=("under a wrong guess",)),
+    Leak("guesses.low", "guesses/two", "arg 3\narg 16\narg 0\n" + VAULT, "--public", told=("under a wrong guess",)),
+    Leak("guesses.low", "guesses/loop", "arg 196600\narg 8\n" + VAULT, told=("under a wrong guess",)),
+    Leak("guesses.low", "guesses/store", AT_16, "--public --forward", told=("under a wrong guess", "again: blade forward")),
+    Leak("debug.low", "guesses/debug", "arg 3\narg 0\n", told=("under a wrong guess",)),
+    Leak("debug", "guesses/debug", "arg 3\narg 0\n", told=("under a wrong guess",)),
+]
+# What is constant-time, or tells nothing there: the same table's other half.
+QUIET = [
+    Leak("masked", "masked/masked", "arg 3\n", told=("reaches 2 of 2 refused ends, and meets at 0 of them",)),
+    Leak("masked_ssa", "masked_ssa/masked", "arg 3\n"),
+    Leak("compare", "compare/compare", TAGS),
+    Leak("quarter", "quarter/quarter", f"arg 4096\nmemory 0 4096 {'0123456789abcdef' * 2}\n"),
+    Leak("piece.g", "piece/add", PIECE, "--keep 0:4096:4", told=("looks public", "none would be refused: examples/piece.c:11")),
+    Leak("piece", "piece/add", PIECE.replace("memory 0", "memory 1") + "memory 0 4096 03000000\n"),
+    Leak("handle", "handle/f", f"arg 4096\narg 255\nmemory 1 4096 0020000004000000\nmemory 0 8192 {'11' * 16}\n"),
+    *(Leak("guesses", f"guesses/{name}", AT_16, "--public") for name in ("address", "branch", "divide", "call", "store")),
+    Leak("guesses", "guesses/scaled", "arg 3\narg 4\n" + VAULT, "--public"),
+    Leak("guesses", "guesses/two", "arg 3\narg 16\narg 0\n" + VAULT, "--public"),
+    Leak("guesses", "guesses/loop", "arg 196600\narg 8\n" + VAULT, "--public"),
+    Leak("guesses.low", "guesses/store", AT_16, "--public"),
+    Leak("guesses", "guesses/store", AT_16, "--public --forward"),
+    *(Leak("calls", f"calls/{name}", f"arg 8192\narg 4096\narg 7\nmemory 0 4096 {'0102030405060708'}\n") for name in ("copy", "move", "set", "compare")),
+    Leak("forgotten", "forgotten/f", f"arg 4096\narg 8192\nmemory 0 4096 {'11' * 16}\nmemory 1 8192 {'22' * 16}\n"),
+    Leak("mail", "mail/tag", "arg 1\narg 2\narg 4096\narg 2\nmemory 0 4096 0102030405060708\n"),
+    Leak("chat", "chat/tag", "arg 1\narg 2\narg 4096\nmemory 0 4096 01020304081000000506070800000000\n"),
+]
+
+
+def modules_of(check, image: str) -> List[str]:
+    """The modules of an image, where there are lines in them."""
+    folder, name = check.folder, image.split(".")[0]
+    peers = {"guesses": ["vault"], "index": ["vault"], "frame": ["vault"], "address": ["vault"], "handle": ["vault"], "into": ["ledger"], "piece": ["ledger"]}
+    if name in ("guesses", "debug"):
+        return [f"{folder}/{'debug/' * (name == 'debug')}guesses.wasm", f"{folder}/vault.wasm"]
+    if image == "lookup":
+        return [f"{EXAMPLES}/lookup.wasm"]
+    if image == "piece.g":
+        return [f"{folder}/plain/piece.wasm"]
+    return [f"{folder}/{peer}.wasm" for peer in peers.get(name, [])] + [f"{folder}/{name}.wasm"] if name in peers else []
+
+
+def compiled(check, name: str, to: str, flags: Tuple[str, ...] = ()) -> None:
+    """A module of C with lines and a memory that doesn't grow."""
+    os.makedirs(os.path.dirname(to), exist_ok=True)
+    clang = "clang --target=wasm32 -mcpu=mvp -O2 -ffreestanding -g".split()
+    link = "wasm-ld --no-entry --stack-first -z stack-size=65536 --initial-memory=196608 --max-memory=196608".split()
+    subprocess.run([*clang, *flags, f"-I{COMPANIONS}/include", "-c", "-o", f"{to}.o", f"{EXAMPLES}/{name}.c"], check=True)
+    subprocess.run([*link, "-o", f"{to}.linked", f"{to}.o"], check=True)
+    subprocess.run(["wasm-opt", "-g", "--untee", "--ssa", f"{to}.linked", "-o", to], check=True, stderr=subprocess.DEVNULL)
+
+
+def make_images(check) -> None:
+    """Those that no other check makes."""
+    folder, label = check.folder, f"{COMPANIONS}/blade-label"
+    subprocess.run([label, "--replace", f"{EXAMPLES}/compare.wasm", f"{folder}/compare.wasm", "secret-memory", "0", "public-result", "0", "0"], check=True)
+    check.hardened("result", [f"{folder}/compare.wasm"])
+    for name in ("lookup", "masked", "masked_ssa", "compare", "quarter", "list", "sample"):
+        check.hardened(name, [f"{EXAMPLES}/{name}.wasm"])
+    compiled(check, "piece", f"{folder}/plain/piece.g.wasm")
+    subprocess.run([label, f"{folder}/plain/piece.g.wasm", f"{folder}/plain/piece.wasm", "secret-memory", "0"], check=True)
+    check.hardened("piece.g", modules_of(check, "piece.g"))
+    compiled(check, "guesses", f"{folder}/guesses.wasm")
+    os.makedirs(f"{folder}/debug", exist_ok=True)
+    subprocess.run([label, f"{folder}/guesses.wasm", f"{folder}/debug/guesses.wasm", "secret-param", "debug", "0"], check=True)
+    subprocess.run([label, f"{COMPANIONS}/include/accessors.wasm", f"{folder}/vault.wasm", "secret-memory", "0"], check=True)
+    for name in ("guesses", "debug"):
+        check.hardened(name, modules_of(check, name))
+        check.blade("lower", f"{folder}/{name}.low.img", *modules_of(check, name))
+
+
+def searched(check, leak: Leak, out: str, *words: str) -> Tuple[int, str]:
+    """The status and the text of a search."""
+    start = f"{check.folder}/{out}.start"
+    with open(start, "w", encoding="ascii") as file:
+        file.write(leak.start)
+    command = [f"{COMPANIONS}/blade-witness", f"{check.folder}/{leak.image}.img", leak.export, start, *modules_of(check, leak.image), *leak.words.split()]
+    done = subprocess.run([*command, "--blade", check.program, "--out", f"{check.folder}/{out}", *words], capture_output=True, text=True, check=False)
+    return done.returncode, done.stdout + (done.stderr if done.returncode in (USAGE, UNREAD) else "")
+
+
+def replayed(check, out: str, text: str) -> str:
+    """What is wrong where the program alone judges what a search wrote, twice: it must tell the runs apart where the text says, in its words."""
+    with open(f"{check.folder}/{out}.again", encoding="utf-8") as file:
+        words = shlex.split(file.read())
+    first, second = (subprocess.run([check.program, *words[1:]], capture_output=True, text=True, check=False) for _ in range(2))
+    rows = first.stdout.split("\n")[words[1] == "forward" :]
+    told = re.search(r"at directive (\d+), .*: one run shows `(.*)`, the other `(.*)`", text)
+    wanted = ["public agree", f"differ {told[1]}", told[2], told[3]]
+    if first.returncode != 1 or [rows[0], *rows[-4:-1]] != wanted:
+        return f"{shlex.join(words)}: status {first.returncode}: {[rows[0], *rows[-4:-1]]}"
+    return "" if first.stdout == second.stdout else "the program says another thing the second time"
+
+
+def fault_of(check, number: int, leak: Leak, *words: str) -> str:
+    if not os.path.exists(f"{check.folder}/{leak.image}.img"):
+        return "there is no image: the other checks make it"
+    status, text = searched(check, leak, f"found{number}", *words)
+    missing = [one for one in leak.told if one not in text]
+    if status != leak.status or missing:
+        return f"status {status}, without {missing}: {text}"
+    return replayed(check, f"found{number}", text) if status == WITNESSED else ""
+
+
+def name_of(leak: Leak) -> str:
+    return f"{leak.export} of {leak.image}{' ' * bool(leak.words)}{leak.words}"
+
+
+def witnesses(check) -> None:
+    """Each known leak is witnessed, and replayed."""
+    make_images(check)
+    for number, leak in enumerate(LEAKS):
+        how = "witnessed, and replayed" if leak.status == WITNESSED else "shown by whole runs"
+        check.say(f"{name_of(leak)}: {how}", fault_of(check, number, leak, "--seconds", LIMIT))
+    same(check)
+    by_hand(check)
+    explained(check)
+    refused(check)
+
+
+def same(check) -> None:
+    """One seed gives one answer, whatever the processors and the limit in time."""
+    for leak in (LEAKS[0], next(one for one in LEAKS if one.export == "guesses/branch")):
+        told = []
+        for out, words in (("all", ["--seconds", LIMIT]), ("one", ["--seconds", "1000"])):
+            kept = os.sched_getaffinity(0)
+            os.sched_setaffinity(0, kept if out == "all" else {min(kept)})
+            status, text = searched(check, leak, out, *words)
+            os.sched_setaffinity(0, kept)
+            files = [open(f"{check.folder}/{out}.{end}", "rb").read() for end in ("trace", "a.start", "b.start")]
+            told.append((status, text.replace(f"/{out}.", "/."), files))
+        check.say(f"{name_of(leak)}: one processor finds what all find", "" if told[0] == told[1] else f"{told}")
+
+
+def by_hand(check) -> None:
+    """The table of lookup stands at 1024: the addresses are those of the two indices."""
+    indices = [int(open(f"{check.folder}/found0.{name}.start", encoding="ascii").read().split()[1]) for name in ("a", "b")]
+    text = searched(check, LEAKS[0], "found0")[1]
+    told = re.search(r"one run shows `read (\d+) .*`, the other `read (\d+) ", text)
+    wanted = [1024 + (index & 15) for index in indices]
+    check.say("lookup: the addresses are those of the indices", "" if told and [int(told[1]), int(told[2])] == wanted and indices[0] == 3 else text)
+
+
+def explain(check, *words: str) -> Tuple[int, str]:
+    done = subprocess.run([f"{COMPANIONS}/blade-explain", f"{check.folder}/lookup.img", f"{EXAMPLES}/lookup.wasm", "--blade", check.program, *words],
+                          capture_output=True, text=True, check=False)
+    return done.returncode, done.stdout + done.stderr
+
+
+def explained(check) -> None:
+    """blade-explain says what the run and the witness show; a witness that isn't one is refused."""
+    out = f"{check.folder}/found0"
+    written = [f"{check.folder}/explained.{end}" for end in ("html", "sarif", "json")]
+    status, text = explain(check, "--start", "lookup/lookup", f"{EXAMPLES}/three.start", "--witness", out,
+                           "--page", written[0], "--sarif", written[1], "--json", written[2])
+    shown = all(one in text for one in ("constant-time no, leak witnessed: 1 of", "leak witnessed: address of a load", "reaches 1 of 1 refused ends"))
+    texts = [open(path, encoding="utf-8").read() for path in written]
+    shown = shown and "leak witnessed" in texts[0] and '"level": "error"' in texts[1] and '"witnessed": true' in texts[2]
+    check.say("blade-explain shows a witness, in its text, page, SARIF and JSON", "" if status == 0 and shown else text)
+    text = explain(check, "--start", "lookup/lookup", f"{EXAMPLES}/three.start")[1]
+    check.say("blade-explain --start: reached and met", "" if "reached 1, met 1: " in text and "likely" not in text else text)
+    for end in ("trace", "a.start", "again"):
+        with open(f"{out}.{end}", "rb") as file, open(f"{check.folder}/wrong.{end}", "wb") as other:
+            other.write(file.read())
+    with open(f"{check.folder}/wrong.b.start", "w", encoding="ascii") as file:
+        file.write("arg 3\n")
+    status, text = explain(check, "--witness", f"{check.folder}/wrong")
+    check.say("blade-explain: two equal starts are no witness", "" if status == UNREAD and "says nothing of a leak" in text else f"{status} {text}")
+
+
+def refused(check) -> None:
+    """What can't be searched, and a search that time ends."""
+    lookup = LEAKS[0]
+    for words, status, told in ((["--keep", "0:x:1"], UNREAD, "M:OFFSET:SIZE"), (["--secret", "0:16:4"], UNREAD, "isn't declared secret"), (["--what"], USAGE, "")):
+        done = searched(check, lookup, "refused", *words)
+        check.say(f"blade-witness {' '.join(words)}", "" if done[0] == status and told in done[1] else f"{done}")
+    done = searched(check, QUIET[1], "refused", "--seconds", "0")
+    check.say("blade-witness --seconds 0", "" if done[0] == NOTHING and "stopped after 0 seconds" in done[1] else f"{done}")
+    for leak in (Leak("guesses", "guesses/address", "arg 3\narg 16\n"), Leak("list", "list/list", "arg 2048\n"),
+                 Leak("sample", "sample/sample", "arg 2048\narg 1\narg 4096\n")):
+        done = searched(check, leak, "refused")
+        check.say(f"{name_of(leak)}: nothing may change", "" if done[0] == USAGE and "nothing may change" in done[1] else f"{done}")
+
+
+# The worked routines: the folder and the function of each.
+ROUTINES = {"chacha20": "chacha20/chacha20", "poly1305": "poly1305/poly1305", "sha256": "hmac/sha256_of", "hmac": "hmac/hmac",
+            "aes128": "aes128/aes128", "x25519": "x25519/x25519"}
+
+
+def quiet(check) -> None:
+    """Nothing is found where the code is constant-time; where the verdict is yes a witness would be a hole in a theorem."""
+    for number, leak in enumerate(QUIET, 100):
+        leak = leak._replace(status=NOTHING)
+        check.say(f"{name_of(leak)}: nothing found", fault_of(check, number, leak, "--seconds", HUNT))
+    for name, export in ROUTINES.items():
+        for way in ("one", "ledger", "vault"):
+            source = export.split("/")[0]
+            image = f"{name}/{way}/{source}/{source}"
+            if not os.path.exists(f"{check.folder}/{image}.img"):
+                if name != "x25519" or check.everything:
+                    check.say(f"{name} {way}: nothing found", "there is no image: the other checks make it")
+                continue
+            with open(f"{check.folder}/{name}/{way}/{source}/{name}.start", encoding="ascii") as file:
+                leak = Leak(image, export, file.read(), status=NOTHING)
+            status, text = searched(check, leak, f"{name}.{way}", "--seconds", HUNT)
+            check.say(f"{name} {way}: nothing found", "" if status == NOTHING else text)
