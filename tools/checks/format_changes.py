@@ -4,7 +4,7 @@ import json
 import re
 from unittest import mock
 
-from formats import read as outside
+import read as outside
 
 NUMBERS = [0, 1, 256, 257, 1 << 20, (1 << 31) - 1, 1 << 31, (1 << 32) - 1, 1 << 32, 1 << 63, (1 << 64) - 1, 1 << 64, 1 << 70]
 PLAIN = [b"\x08", b"\x04\x00", b"\x09\x07", b"\x06\x00", b"\x03\x01\x00\x07\x08"]  # commands that any function may have
