@@ -95,10 +95,88 @@ warn_unlabelled() {
     done
 }
 
-# Whether a program isn't there, or is older than a file or folder that it may be made from.
+# Whether a program isn't there, or is older than a file or folder that it may be made from, or this can't be told.
 is_old() {
-    [ ! -x "$1" ] || [ "$here/crates.txt" -nt "$1" ] || [ -n "$(find "$here/crates" -mindepth 2 -name out -prune -o -path '*/crates/tests_*' -prune -o \
-        \( -name '*.rt' -o -name '*.antt' -o -type d \) -newer "$1" -print -quit)" ]
+    local found
+    [ -x "$1" ] && [ ! "$here/crates.txt" -nt "$1" ] || return 0
+    found=$(find "$here/crates" -mindepth 2 -name out -prune -o -path '*/crates/tests_*' -prune -o \
+        \( -name '*.rt' -o -name '*.antt' -o -type d \) -newer "$1" -print -quit) || return 0
+    [ -n "$found" ]
+}
+
+# The sum over all that the program is made from: its crates' lines in crates.txt, and their sources, definitions and proofs. It needs
+# coreutils and findutils only. Where a tool is missing the sum is another one.
+source_stamp() {
+    local line
+    (
+        cd "$here" || exit
+        export LC_ALL=C
+        while read -r line; do
+            case $line in '' | '#'* | tests_*) ;; *) printf '%s\n' "$line" ;; esac
+        done < crates.txt | sort
+        find crates -mindepth 2 \( -name out -o -path 'crates/tests_*' \) -prune -o -type f \( -name '*.rt' -o -name '*.antt' \) -print0 |
+            sort -z | xargs -0 sha256sum
+    ) | sha256sum | { read -r line _ && echo "$line"; }
+}
+
+# A field of the record beside the program of dist/.
+recorded() {
+    local field rest
+    while read -r field rest; do
+        if [ "$field" = "$1" ]; then echo "$rest"; return; fi
+    done < "$here/dist/RECORD"
+    return 1
+}
+
+# Makes the folder of the user's own in which the program of dist/ is unpacked, and prints it. Nobody else may write or read there.
+unpack_folder() {
+    local base=${XDG_CACHE_HOME:-${HOME:+$HOME/.cache}} folder
+    [ -n "$base" ] || return 1
+    folder=$base/blade/dist
+    (umask 077 && mkdir -p "$folder") || return 1
+    [ -d "$folder" ] && [ ! -L "$folder" ] && [ -O "$folder" ] && [ "$(stat -c %a "$folder")" = 700 ] || return 1
+    echo "$folder"
+}
+
+# Unpacks the program of dist/ into a folder, where it isn't there yet or has another sum, and tries whether it runs.
+unpack() {
+    local folder=$1 sum=$2 made status=0
+    if [ -f "$folder/$sum" ] && [ -O "$folder/$sum" ] && is_sum "$folder/$sum" "$sum"; then return; fi
+    made=$(mktemp "$folder/.unpack-XXXXXX") || return 1
+    if gzip -dc < "$here/dist/blade.gz" > "$made" && is_sum "$made" "$sum" && chmod 700 "$made"; then
+        # With no words it says how it is used, and ends with 2.
+        "$made" < /dev/null > /dev/null 2>&1 || status=$?
+        if [ "$status" = 2 ] && mv -T "$made" "$folder/$sum"; then return; fi
+    fi
+    rm -f "$made"
+    return 1
+}
+
+is_sum() {
+    local sum
+    sum=$(sha256sum < "$1") && [ "${sum%% *}" = "$2" ]
+}
+
+# Sets `unpacked` to the program of dist/, if the record's stamp is the stamp of the sources at hand; fails if it isn't, or if any tool or test
+# fails. A file in the cache has the time at which the stamp was last found equal: it is compared again only when a source, or dist/, changed since.
+find_unpacked() {
+    local sum stamp folder seen found made is_first=
+    [ -f "$here/dist/RECORD" ] && [ -f "$here/dist/blade.gz" ] && [ "$(uname -sm)" = 'Linux x86_64' ] || return 1
+    sum=$(recorded sha256) && stamp=$(recorded stamp) && [[ $sum$stamp =~ ^[0-9a-f]{128}$ ]] || return 1
+    folder=$(unpack_folder) || return 1
+    seen=$(printf %s "$here" | sha256sum) && seen=$folder/of-${seen%% *}
+    unpacked=$folder/$sum
+    if [ -f "$seen" ] && [ "$(< "$seen")" = "$sum $stamp" ] && [ -x "$unpacked" ] && [ -O "$unpacked" ]; then
+        found=$(find "$here/crates.txt" "$here/dist" "$here/crates" -name out -prune -o -path '*/crates/tests_*' -prune -o -cnewer "$seen" -print -quit) || return 1
+        [ -n "$found" ] || return 0
+    fi
+    [ -f "$seen" ] || is_first=1
+    made=$(mktemp "$folder/.seen-XXXXXX") && echo "$sum $stamp" > "$made" || return 1
+    if [ "$(source_stamp)" != "$stamp" ] || ! unpack "$folder" "$sum" || ! mv -T "$made" "$seen"; then
+        rm -f "$made"
+        return 1
+    fi
+    [ -z "$is_first" ] || echo "blade: the program of dist/, proved and built from these sources; ./blade-prove proves it here" >&2
 }
 
 # Builds the program where it is old, then runs the words given, which begin with what is to run.
