@@ -19,7 +19,6 @@ from typing import Any, Callable, Iterable, List, Sequence, Tuple, TypeVar, Unio
 TOP = os.path.dirname(os.path.dirname(os.path.dirname(os.path.realpath(__file__))))
 EXAMPLES, COMPANIONS, FORMATS, BENCH = (f"{TOP}/{name}" for name in ("examples", "companions", "formats", "bench"))
 sys.path[:0] = [COMPANIONS, FORMATS, BENCH]
-BUILT = f"{TOP}/crates/blade/out/blade"
 # The versions by which the examples' modules, their verdicts and the pages were made, as examples/README.md names them.
 VERSIONS = {"clang": "14.0.6", "wasm-ld": "14.0.6", "wasm-opt": "version 108", "wat2wasm": "1.0.32"}
 LONG = 800  # characters of a fault that are printed
@@ -127,7 +126,7 @@ Function = Callable[[Any], None]
 def options_of(doc: str, functions: Sequence[Function], add: Callable[[argparse.ArgumentParser], None]) -> argparse.Namespace:
     """The options of a check: its own, which `add` declares, and those of all."""
     parser = argparse.ArgumentParser(prog=f"tools/checks/{name_of_script()}", description=doc, formatter_class=argparse.RawDescriptionHelpFormatter)
-    parser.add_argument("program", nargs="?", default=os.environ.get("BLADE", BUILT), help="blade; else that of the variable BLADE; else crates/blade/out/blade")
+    parser.add_argument("program", nargs="?", default=os.environ.get("BLADE"), help="blade; else that of the variable BLADE; else what tools/building/program finds")
     parser.add_argument("--only", default="", metavar="NAME,..", help=f"try only some of: {', '.join(it.__name__ for it in functions)}")
     parser.add_argument("--keep", metavar="FOLDER", help="write files into this folder, and keep them")
     add(parser)
@@ -157,9 +156,9 @@ def main(doc: str, functions: Sequence[Function], make: Callable[..., Check] = C
          tools: Sequence[str] = (), room: str = tempfile.gettempdir(), prefix: str = "check-", needs_program: bool = True) -> None:
     """Runs a check, and ends with its status. Without the tools all of it is skipped. Files are written into a folder in `room`."""
     options, begun, name = options_of(doc, functions, add), time.monotonic(), name_of_script()
-    program = os.path.abspath(options.program)
+    program = os.path.abspath(options.program or ran(f"{TOP}/tools/building/program")[1].strip() or "blade")
     if needs_program and not os.access(program, os.X_OK):
-        sys.exit(f"{name}: there is no program {options.program}: ./blade builds crates/blade/out/blade")
+        sys.exit(f"{name}: there is no program {program}: ./blade builds one")
     with tempfile.TemporaryDirectory(prefix=prefix, dir=room) as folder:
         check = make(program, os.path.abspath(options.keep or folder), options)
         os.makedirs(check.folder, exist_ok=True)
