@@ -1,7 +1,7 @@
 """How modules of WebAssembly are spelled: numbers, vectors, names, sections. Licence: public domain (CC0)."""
 from __future__ import annotations
 
-from typing import Iterable, List, Sequence, Union
+from typing import Iterable, Sequence, Union
 
 MAGIC = b"\0asm\1\0\0\0"
 I32, I64 = 0x7F, 0x7E
@@ -51,6 +51,8 @@ def module(*sections: bytes) -> bytes:
     return MAGIC + b"".join(sections)
 
 
-def of_functions(types: List[bytes], functions: Sequence[int], bodies: Sequence[bytes], more: bytes = b"") -> bytes:
-    """A module of types, functions by their types, and their bodies; more sections are in front of the code."""
-    return module(section(1, vector(types)), section(3, vector([leb(one) for one in functions])), more, section(10, vector([sized(body) for body in bodies])))
+def of_functions(types: Sequence[bytes], functions: Sequence[int], bodies: Sequence[bytes], more: bytes = b"", imports: Sequence[bytes] = ()) -> bytes:
+    """A module of types, imports, functions by their types, and their bodies; more sections are in front of the code."""
+    imported = section(2, vector(imports)) if imports else b""
+    defined = section(3, vector([leb(one) for one in functions]))
+    return module(section(1, vector(types)), imported, defined, more, section(10, vector([sized(body) for body in bodies])))
