@@ -196,7 +196,7 @@ def witnesses(check) -> None:
     make_images(check)
     for number, leak in enumerate(LEAKS):
         how = "witnessed, and replayed" if leak.status == WITNESSED else "shown by whole runs"
-        check.say(f"{name_of(leak)}: {how}", fault_of(check, number, leak, "--seconds", LIMIT))
+        check.fault(f"{name_of(leak)}: {how}", fault_of(check, number, leak, "--seconds", LIMIT))
     same(check)
     by_hand(check)
     explained(check)
@@ -214,7 +214,7 @@ def same(check) -> None:
             os.sched_setaffinity(0, kept)
             files = [open(f"{check.folder}/{out}.{end}", "rb").read() for end in ("trace", "a.start", "b.start")]
             told.append((status, text.replace(f"/{out}.", "/."), files))
-        check.say(f"{name_of(leak)}: one processor finds what all find", "" if told[0] == told[1] else f"{told}")
+        check.say(f"{name_of(leak)}: one processor finds what all find", told[0] == told[1], f"{told}")
 
 
 def by_hand(check) -> None:
@@ -223,7 +223,7 @@ def by_hand(check) -> None:
     text = searched(check, LEAKS[0], "found0")[1]
     told = re.search(r"one run shows `read (\d+) .*`, the other `read (\d+) ", text)
     wanted = [1024 + (index & 15) for index in indices]
-    check.say("lookup: the addresses are those of the indices", "" if told and [int(told[1]), int(told[2])] == wanted and indices[0] == 3 else text)
+    check.say("lookup: the addresses are those of the indices", told and [int(told[1]), int(told[2])] == wanted and indices[0] == 3, text)
 
 
 def explain(check, *words: str) -> Tuple[int, str]:
@@ -241,16 +241,16 @@ def explained(check) -> None:
     shown = all(one in text for one in ("constant-time no, leak witnessed: 1 of", "leak witnessed: address of a load", "reaches 1 of 1 refused ends"))
     texts = [open(path, encoding="utf-8").read() for path in written]
     shown = shown and "leak witnessed" in texts[0] and '"level": "error"' in texts[1] and '"witnessed": true' in texts[2]
-    check.say("blade-explain shows a witness, in its text, page, SARIF and JSON", "" if status == 0 and shown else text)
+    check.say("blade-explain shows a witness, in its text, page, SARIF and JSON", status == 0 and shown, text)
     text = explain(check, "--start", "lookup/lookup", f"{EXAMPLES}/three.start")[1]
-    check.say("blade-explain --start: reached and met", "" if "reached 1, met 1: " in text and "likely" not in text else text)
+    check.say("blade-explain --start: reached and met", "reached 1, met 1: " in text and "likely" not in text, text)
     for end in ("trace", "a.start", "again"):
         with open(f"{out}.{end}", "rb") as file, open(f"{check.folder}/wrong.{end}", "wb") as other:
             other.write(file.read())
     with open(f"{check.folder}/wrong.b.start", "w", encoding="ascii") as file:
         file.write("arg 3\n")
     status, text = explain(check, "--witness", f"{check.folder}/wrong")
-    check.say("blade-explain: two equal starts are no witness", "" if status == UNREAD and "says nothing of a leak" in text else f"{status} {text}")
+    check.say("blade-explain: two equal starts are no witness", status == UNREAD and "says nothing of a leak" in text, f"{status} {text}")
 
 
 def refused(check) -> None:
@@ -258,13 +258,13 @@ def refused(check) -> None:
     lookup = LEAKS[0]
     for words, status, told in ((["--keep", "0:x:1"], UNREAD, "M:OFFSET:SIZE"), (["--secret", "0:16:4"], UNREAD, "isn't declared secret"), (["--what"], USAGE, "")):
         done = searched(check, lookup, "refused", *words)
-        check.say(f"blade-witness {' '.join(words)}", "" if done[0] == status and told in done[1] else f"{done}")
+        check.say(f"blade-witness {' '.join(words)}", done[0] == status and told in done[1], f"{done}")
     done = searched(check, QUIET[1], "refused", "--seconds", "0")
-    check.say("blade-witness --seconds 0", "" if done[0] == NOTHING and "stopped after 0 seconds" in done[1] else f"{done}")
+    check.say("blade-witness --seconds 0", done[0] == NOTHING and "stopped after 0 seconds" in done[1], f"{done}")
     for leak in (Leak("guesses", "guesses/address", "arg 3\narg 16\n"), Leak("list", "list/list", "arg 2048\n"),
                  Leak("sample", "sample/sample", "arg 2048\narg 1\narg 4096\n")):
         done = searched(check, leak, "refused")
-        check.say(f"{name_of(leak)}: nothing may change", "" if done[0] == USAGE and "nothing may change" in done[1] else f"{done}")
+        check.say(f"{name_of(leak)}: nothing may change", done[0] == USAGE and "nothing may change" in done[1], f"{done}")
 
 
 # The worked routines: the folder and the function of each.
@@ -276,16 +276,16 @@ def quiet(check) -> None:
     """Nothing is found where the code is constant-time; where the verdict is yes a witness would be a hole in a theorem."""
     for number, leak in enumerate(QUIET, 100):
         leak = leak._replace(status=NOTHING)
-        check.say(f"{name_of(leak)}: nothing found", fault_of(check, number, leak, "--seconds", HUNT))
+        check.fault(f"{name_of(leak)}: nothing found", fault_of(check, number, leak, "--seconds", HUNT))
     for name, export in ROUTINES.items():
         for way in ("one", "ledger", "vault"):
             source = export.split("/")[0]
             image = f"{name}/{way}/{source}/{source}"
             if not os.path.exists(f"{check.folder}/{image}.img"):
-                if name != "x25519" or check.everything:
-                    check.say(f"{name} {way}: nothing found", "there is no image: the other checks make it")
+                if name != "x25519" or check.options.all:
+                    check.fault(f"{name} {way}: nothing found", "there is no image: the other checks make it")
                 continue
             with open(f"{check.folder}/{name}/{way}/{source}/{name}.start", encoding="ascii") as file:
                 leak = Leak(image, export, file.read(), status=NOTHING)
             status, text = searched(check, leak, f"{name}.{way}", "--seconds", HUNT)
-            check.say(f"{name} {way}: nothing found", "" if status == NOTHING else text)
+            check.say(f"{name} {way}: nothing found", status == NOTHING, text)

@@ -6,7 +6,8 @@ from collections import Counter, defaultdict
 from typing import Dict, Iterator, List, NamedTuple, Optional, Sequence, Tuple
 
 from ..verdict.flow import is_bounds_test
-from ..formats.image import OUTSIDE, TRAPS, Command, Image, Operand
+from ..formats.image import TRAPS, Command, Image, Operand
+from ..formats.operators import OUTSIDE
 from ..formats.running import PAGE, Run, Start, freed, signed
 
 ROOM, FORWARD_ROOM = 64, 32  # entries of the buffers of twin and of forward
