@@ -113,7 +113,7 @@ class Sought:
         lines = made.trace()
         with open(path, "w", encoding="ascii") as file:
             file.writelines(f"{line}\n" for line in lines)
-        return self.first_apart(one, path)._replace(paths=made.paths)
+        return self.first_apart(one, path)._replace(paths=made.paths, cut=made.cut)
 
     def wrong(self, number: int, arguments: Optional[Sequence[int]]) -> WrongGuesses:
         """The trace with wrong guesses that has a number."""

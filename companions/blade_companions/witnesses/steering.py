@@ -231,6 +231,7 @@ class WrongGuesses:
         self.times: Counter = Counter()
         self.lines: List[str] = []
         self.paths: List[Tuple[int, int]] = []  # the lines of each wrong path, from and behind
+        self.cut = False  # whether the trace ends before its run
 
     def take(self, position: int, command: Command, taken: bool) -> bool:
         """Goes the wrong way from a test, if it is worth it."""
@@ -259,6 +260,7 @@ class WrongGuesses:
                 self.access(command, steps)
             else:
                 self.lines += ("fetch", "exec 0", *freed(0, command), "retire")
+        self.cut = len(self.lines) > LINES or not self.run.left
         return self.lines[:LINES]
 
     def access(self, bounds: Command, steps: Iterator[tuple]) -> None:
