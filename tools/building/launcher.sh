@@ -3,10 +3,10 @@
 # What ./blade and ./blade-unproved share: they source it. Standard output and the status are the program's; what is said here goes to
 # standard error.
 
-# Prints what the program may not: its one line on standard output is fixed.
+# The commands, as --help lists them.
 print_help() {
-    cat >&2 << COMMANDS
-blade $(cat "$here/VERSION"): hardens WebAssembly modules against speculative leaks, and says whether the result is constant-time
+    cat << COMMANDS
+blade $(< "$here/VERSION"): hardens WebAssembly modules against speculative leaks, and says whether the result is constant-time
   blade harden IMAGE CERT MODULE... [--counts FILE]          writes the hardened image and its certificate, and prints the report
   blade lower IMAGE MODULE...                                writes the image without protects
   blade interp EXPORT START MODULE... [--steps N]            runs a function of the modules
@@ -23,20 +23,87 @@ Words, files, texts and exit statuses: $here/docs/CLI.md
 COMMANDS
 }
 
-# Answers no words, help, --help and --version; whether it did.
+# The launcher's own answers: --help and --version, if nothing else is given, on standard output; whether it was one of them.
 answer() {
-    local word
     case $#${1-} in
-        0 | 1help) print_help; return ;;
-        1--version) echo "blade $(cat "$here/VERSION")" >&2; return ;;
+        1--help | 1-h) print_help ;;
+        1--version) echo "blade $(< "$here/VERSION")" ;;
+        *) return 1 ;;
     esac
-    for word in "$@"; do
-        case $word in
-            --) return 1 ;;
+}
+
+# The operands of a command, as --help has them, without options; fails if there is no such command.
+operands_of() {
+    case $1 in
+        harden) echo 'IMAGE CERT MODULE...' ;;
+        lower) echo 'IMAGE MODULE...' ;;
+        interp) echo 'EXPORT START MODULE...' ;;
+        run) echo 'IMAGE EXPORT START' ;;
+        spec | predict) echo 'IMAGE EXPORT TRACE START' ;;
+        twin | forward) echo 'IMAGE EXPORT TRACE START START2' ;;
+        part) echo 'ROLE IMAGE IFACE MODULE...' ;;
+        join) echo 'IMAGE IFACE CLIENT LIBRARY' ;;
+        verify) echo 'IMAGE CERT' ;;
+        gen) echo 'SEED SIZE' ;;
+        *) return 1 ;;
+    esac
+}
+
+# The options of a command.
+options_of() {
+    case $1 in
+        harden) echo '--counts' ;;
+        interp | predict) echo '--steps' ;;
+        run) echo '--steps --counts' ;;
+    esac
+}
+
+# Prints what is wrong with a call, as far as its words show it without the program; nothing if they don't.
+explain_call() {
+    local command=${1-} operands options given=() wanted word
+    if [ $# = 0 ] || [ "$command" = help ]; then
+        print_help
+        return
+    fi
+    if ! operands=$(operands_of "$command"); then
+        echo "blade: there is no command ${command@Q}; blade --help lists them"
+        return
+    fi
+    options=" $(options_of "$command") "
+    shift
+    while [ $# -gt 0 ] && [ "$1" != -- ]; do
+        word=${1%%=*}
+        case $1 in
             --help | -h) print_help; return ;;
+            --*)
+                if [[ $options != *" $word "* ]]; then
+                    echo "blade: $command has no option ${word@Q}"
+                    return
+                fi
+                if [ "$word" = "$1" ]; then
+                    [ $# -gt 1 ] || { echo "blade: $command: $word has no value"; return; }
+                    shift
+                fi
+                if [ "$word" = --steps ] && [[ ! ${1#--steps=} =~ ^[0-9]+$ ]]; then
+                    echo "blade: $command: --steps takes a number, not ${1@Q}"
+                    return
+                fi
+                ;;
+            *) given+=("$1") ;;
         esac
+        shift
     done
-    return 1
+    given+=("${@:2}")
+    read -r -a wanted <<< "$operands"
+    if [ "${#given[@]}" -lt "${#wanted[@]}" ]; then
+        echo "blade: $command takes $operands; there is no ${wanted[${#given[@]}]}"
+    elif [ "${#given[@]}" -gt "${#wanted[@]}" ] && [[ $operands != *... ]]; then
+        echo "blade: $command takes $operands; ${given[${#wanted[@]}]@Q} is one word too many"
+    elif [ "$command" = part ] && [ "${given[0]}" != client ] && [ "${given[0]}" != library ]; then
+        echo "blade: part takes client or library as ROLE, not ${given[0]@Q}"
+    elif [ "$command" = gen ] && [[ ! ${given[0]}${given[1]} =~ ^[0-9]+$ ]]; then
+        echo "blade: gen takes two numbers, SEED and SIZE"
+    fi
 }
 
 # Warns where a file that harden, lower, part, join, predict or run writes is another of its files: the program compares names as words, and the
