@@ -68,7 +68,7 @@ class Machine:
         sources, behind = [self.source(operand) for operand in command.operands], self.front + 1
         if command.kind == 'Test':
             one, other = command.targets if guess else command.targets[::-1]
-            entry, behind = Entry('guard', sources=sources, position=self.front, guess=guess, other=other, chain=self.chain), one
+            entry, behind = Entry('guard', sources=sources, guess=guess, other=other, chain=self.chain), one
         elif command.kind in ('Set', 'Arg', 'Out'):
             to = {'Set': self.register(command.writes, depth), 'Arg': (depth + 1, command.writes), 'Out': (depth - 1, command.writes)}[command.kind]
             entry = Entry('set', to=to, sources=sources, operator=command.operator if command.kind == 'Set' else 0, protect=command.is_protected)
@@ -86,8 +86,8 @@ class Machine:
         else:
             self.end = 'trapped ' + ('call stack exhausted' if command.kind == 'Call' else TRAPS[self.front])
             entry = Entry('fail')
+        entry.position, self.front = self.front, behind
         self.entries.append(entry)
-        self.front = behind
         return 'none'
 
     # ---- executing

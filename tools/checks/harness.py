@@ -107,6 +107,12 @@ class Check:
             self.skip(name, f"no {', '.join(wanted)} here")
         return not missing
 
+    def unit_tests(self, *names: str) -> None:
+        """Runs tests of companions/tests; without names all of them."""
+        words = [f"tests.{name}" for name in names] or ["discover", "-s", "tests", "-t", "."]
+        status, text = ran(sys.executable, "-B", "-m", "unittest", *words, cwd=COMPANIONS)
+        self.say(f"unit tests {' '.join(names)}".rstrip(), status == 0, text)
+
     def path(self, name: str) -> str:
         return f"{self.folder}/{name}"
 

@@ -1,5 +1,5 @@
-"""Tests of blade-witness: each leak that is known here is found and replayed by the program, and none where the code is constant-time.
-Licence: public domain (CC0)."""
+"""Searches of blade-witness, for tools/checks/examples: each leak that is known here is found and replayed by the program, and none where the code is
+constant-time. Licence: public domain (CC0)."""
 from __future__ import annotations
 
 import os
@@ -8,53 +8,11 @@ import shlex
 import subprocess
 from typing import List, NamedTuple, Tuple
 
-from blade_companions.witnesses.directives import last_of
-from blade_companions.formats.image import Command, Function, Image, Memory, Operand
-from blade_companions.witnesses.pairs import Range, Secret, joined, ranges_of, what_changes
-from blade_companions.formats.reading import Bad
-from blade_companions.formats.running import Start
+from harness import COMPANIONS, EXAMPLES, ran
 
-TOP = os.path.dirname(os.path.dirname(os.path.dirname(os.path.realpath(__file__))))
-EXAMPLES, COMPANIONS = f"{TOP}/examples", f"{TOP}/companions"
 NOTHING, WITNESSED, USAGE, UNREAD, SHOWN = range(5)
 LIMIT = "600"  # seconds of a search that has to end by itself, on a machine that does other things too
 HUNT = "6"  # seconds of one that has to find nothing
-
-
-# ---- without the program
-
-
-def tiny() -> Image:
-    """A function of a public and a secret parameter, which tests the public one and, where it isn't 0, the secret one; a secret memory."""
-    p, q = Operand(True, 1), Operand(True, 2)
-    commands = [Command("Trap")] * 7 + [Command("Test", (p,), (), (1,), targets=(8, 9)), Command("Test", (q,), (), (2,), targets=(9, 9)), Command("Ret")]
-    function = Function([False, True], 0, 2, 3, 1, 7, [0x7F, 0x7E])
-    return Image([], [], [Memory(1, 1, True, [(0, bytes(range(16)))])], [function], {0: "m/f"}, {"m/f": 0}, [], {}, commands)
-
-
-def selftest() -> str:
-    image, start = tiny(), Start([5, 1 << 40], [(0, 4, b"\x10\x11"), (0, 5, b"\x22\x23"), (0, 40, b"\x33")])
-    assert list(joined(3, {7, 9, 8, 1})) == [Range(3, 1, 1), Range(3, 7, 3)]
-    ranges = what_changes(image, 0, start, [], [Range(0, 6, 1)])
-    # The secret parameter, of 8 bytes; what the lines give, those that meet as one; without what is kept.
-    assert ranges == [Range(None, 1, 8), Range(0, 4, 2), Range(0, 40, 1)], ranges
-    secret = Secret(image, start, ranges)
-    assert secret.first == (1 << 40).to_bytes(8, "little") + b"\x10\x22\x33"
-    assert secret.text(bytes(8) + b"\xaa\xbb\xcc") == "arg 5\narg 0\nmemory 0 5 2223\nmemory 0 4 aabb\nmemory 0 40 cc\n"
-    assert [secret.name(place) for place in (7, 8, 10)] == ["parameter 1", "memory 0, byte 4", "memory 0, byte 40"]
-    assert what_changes(image, 0, start, [Range(0, 0, 2)], []) == [Range(None, 1, 8), Range(0, 0, 2)]
-    for words in (["0:1"], ["0:1:0"], ["0:-1:2"], ["x:1:2"]):
-        try:
-            assert not ranges_of(words)
-        except Bad:
-            continue
-    # A wrong guess at 7 leads back to 9, and with it what was fetched goes.
-    position, entries = last_of(image, 0, ["fetch 1", "fetch 0", "exec 1", "exec 0", "fetch"], ["none", "none", "none", "rollback 0"])
-    assert (position, [entry.position for entry in entries], entries[0].guess) == (9, [7], None)
-    return "witness_test: what changes, starts, and where a directive stands"
-
-
-# ---- with the program
 
 
 class Leak(NamedTuple):
@@ -227,9 +185,7 @@ def by_hand(check) -> None:
 
 
 def explain(check, *words: str) -> Tuple[int, str]:
-    done = subprocess.run([f"{COMPANIONS}/blade-explain", f"{check.folder}/lookup.img", f"{EXAMPLES}/lookup.wasm", "--blade", check.program, *words],
-                          capture_output=True, text=True, check=False)
-    return done.returncode, done.stdout + done.stderr
+    return ran(f"{COMPANIONS}/blade-explain", f"{check.folder}/lookup.img", f"{EXAMPLES}/lookup.wasm", "--blade", check.program, *words)
 
 
 def explained(check) -> None:
