@@ -85,6 +85,27 @@ impl Capacities {
         }
     }
 
+    /// Whether a link may take more: for a search, which tests what it finds. Links without a bound always may.
+    pub fn may_take(&self, link: usize) -> bool {
+        let half = self.carried.len();
+        if link >= half {
+            self.carries(link - half)
+        } else {
+            match self.through.get(link) {
+                Some(left) => *left > 0,
+                None => true,
+            }
+        }
+    }
+
+    /// Whether a link carries something, the first links those through the nodes.
+    pub fn carries(&self, link: usize) -> bool {
+        match self.carried.get(link) {
+            Some(amount) => *amount > 0,
+            None => false,
+        }
+    }
+
     /// What each link carries.
     pub fn into_carried(self) -> Vec<u64>
         ensures places { (half : ℕ) → half + half ≡ length self → length result.items ≡ half }
