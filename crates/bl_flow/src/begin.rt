@@ -1,13 +1,15 @@
-//! The flow that `fill` begins with. The searches for it are not trusted: each trail that they find is tested before more
-//! flows along it.
+//! The flow that `fill` begins with. What finds it is not trusted: a trail is tested before more flows along it, and so is
+//! the flow that comes of a preflow.
 ghost use Rattle.std.specs.Prelude.{◌≡◌, ◌<◌, ◌≤◌, ◌+◌, ◌*◌, ◌^◌, ℕ, true, length, slice_index, IfOk};
 ghost use Rattle.bl_flow.specs.{declared.network.Network.Network, Flows.IsFlow, Flows.LeadsBack};
 ghost use Rattle.bl_flow.specs.{Split.link_at, PackedNetworks.IsPacked};
 
+use crate::balance::is_balanced;
 use crate::capacities::Capacities;
 use crate::flow::push;
 use crate::level_graph::least_capacity;
 use crate::path_search::{PathSearch, SearchEnd};
+use crate::preflow::{Candidate, saturate};
 use crate::split::Links;
 use crate::split_network::SplitNetwork;
 use bl_base::NoMemory;
@@ -15,8 +17,8 @@ use std::alloc::Global;
 
 /// A flow to begin with, along paths from one start after the other, each found breadth first; gives how much flows.
 /// Parts from which a search found no path are not visited again, and a path found earlier is taken again as far as it
-/// still leads to the end. The flows of most programs are maximal then, after following each link once or twice. The cost:
-/// at most a fixed number of times all links; the searches end after that, and `fill` goes on from what they found.
+/// still leads to the end. The flows of most programs are maximal then, after following each link once or twice. The
+/// searches end after a fixed number of times all links, and a preflow finds the rest.
 /// The source: Edmonds and Karp, Theoretical improvements in algorithmic efficiency for network flow problems, 1972, for
 /// paths found breadth first; dead ends are left as in depth-first search.
 pub fn begin(
@@ -35,7 +37,76 @@ pub fn begin(
     for link in split.rows.row(source) {
         amount = exhaust(split, capacities, &mut search, &mut places, *link, amount)?;
     }
+    let is_spent = search.is_spent();
+    drop(search);
+    drop(places);
+    if is_spent {
+        amount = complete(alloc, split, capacities, amount)?;
+    }
     Ok(amount)
+}
+
+/// Lets more flow, as a preflow finds it; gives how much flows then. A preflow may send flow round in circles, so that a
+/// link carries more than comes to the end, which is no flow here. How much can flow is known then, and in the second
+/// preflow no link carries more than that.
+fn complete(
+    alloc: Global,
+    split: &SplitNetwork,
+    capacities: &mut Capacities,
+    amount: u64,
+) -> Result<u64, NoMemory>
+    ghost n: { Network }
+    requires { IsPacked n split.now capacities.old amount }
+    ensures { IfOk result (IsFlow n capacities.new) }
+{
+    let first = saturate(alloc, split, capacities, amount, capacities.total_weight())?;
+    let bound = first.amount;
+    let total = adopt(alloc, split, capacities, amount, first)?;
+    if total >= bound {
+        return Ok(total);
+    }
+    let second = saturate(alloc, split, capacities, total, bound)?;
+    adopt(alloc, split, capacities, total, second)
+}
+
+/// Lets links carry what a candidate says, if that is a flow; gives how much flows then.
+fn adopt(
+    alloc: Global,
+    split: &SplitNetwork,
+    capacities: &mut Capacities,
+    amount: u64,
+    candidate: Candidate,
+) -> Result<u64, NoMemory>
+    ghost n: { Network }
+    requires { IsPacked n split.now capacities.old amount }
+    ensures { IfOk result (IsFlow n capacities.new) }
+{
+    let Candidate {
+        carried,
+        amount: total,
+    } = candidate;
+    let source = 2 * split.nodes;
+    let parts = source + 2;
+    if carried.len() > split.links.half()
+        || !is_balanced(
+            alloc,
+            &split.links,
+            &carried,
+            parts,
+            source,
+            source + 1,
+            total,
+        )?
+    {
+        return Ok(amount);
+    }
+    match capacities.carrying(alloc, carried, total)? {
+        Some(after) => {
+            *capacities = after;
+            Ok(total)
+        }
+        None => Ok(amount),
+    }
 }
 
 /// Lets more flow along paths that begin with a link, until none is left or the searches are spent; gives how much flows

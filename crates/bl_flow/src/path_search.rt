@@ -306,7 +306,7 @@ impl PathSearch {
 
 /// A link by its place, if there is one.
 #[inline(always)]
-fn link_in(links: &Links, place: u32) -> Option<Link> {
+pub fn link_in(links: &Links, place: u32) -> Option<Link> {
     let place = place as usize;
     if place < 2 * links.half() {
         Some(links.link(place))
@@ -327,7 +327,7 @@ fn next_part(split: &SplitNetwork, capacities: &Capacities, link: u32) -> Option
 }
 
 /// The links from a part.
-fn row_of(split: &SplitNetwork, part: u32) -> &[u32] {
+pub fn row_of(split: &SplitNetwork, part: u32) -> &[u32] {
     let part = part as usize;
     if part < split.rows.len() {
         split.rows.row(part)

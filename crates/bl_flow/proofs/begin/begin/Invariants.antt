@@ -6,3 +6,6 @@ invariant-loop-link g l = IsFlow g.n l.capacities l.amount
 
 abbrev pub ghost-exhaust : goal.ghost-exhaust
 ghost-exhaust g a = g.n
+
+abbrev pub ghost-complete : goal.ghost-complete
+ghost-complete g a = g.n
