@@ -1,5 +1,5 @@
 -- Sums over parts, where one part is given more.
-use Rattle.std.proofs.Common.{◌≡◌, ℕ, suc, ◌+◌, ◌<◌, Bool, List, length, slice_index, replicate, take, drop, ◌++◌, true, false, refl, ap, ◌∙◌, arith}
+use Rattle.std.proofs.Common.{◌≡◌, ℕ, suc, ◌+◌, Bool, List, length, slice_index, replicate, take, drop, ◌++◌, true, false, refl, ap, ◌∙◌, arith}
 use Rattle.std.proofs.Math.Seq.{take-append_seam}
 use Rattle.bl_base.specs.Sums.{sum_below}
 use Rattle.bl_base.proofs.Sums.{sum_change, sum_none}

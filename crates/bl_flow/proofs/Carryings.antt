@@ -7,8 +7,7 @@ use Rattle.bl_base.proofs.Sums.{sum_same}
 use Rattle.bl_flow.specs.declared.network.Network.{Network}
 use Rattle.bl_flow.specs.declared.split.Link.{Link}
 use Rattle.bl_flow.specs.declared.split_network.SplitNetwork.{SplitNetwork}
-use Rattle.bl_flow.specs.Networks.{size}
-use Rattle.bl_flow.specs.Split.{links_of, both_ways, link_at, in_part, out_part}
+use Rattle.bl_flow.specs.Split.{links_of, both_ways, link_at}
 use Rattle.bl_flow.specs.SplitNetworks.{IsSplitNetwork}
 use Rattle.bl_flow.specs.Flows.{link_count, carried_by, amount_if, IsFlow, Carries}
 use Rattle.bl_flow.specs.Capacities.{both_capacities, AreCarried, AreCarrying, AreLeft}

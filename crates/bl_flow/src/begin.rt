@@ -1,6 +1,6 @@
 //! The flow that `fill` begins with. What finds it is not trusted: a trail is tested before more flows along it, and so is
 //! the flow that comes of a preflow.
-ghost use Rattle.std.specs.Prelude.{◌≡◌, ◌<◌, ◌≤◌, ◌+◌, ◌*◌, ◌^◌, ℕ, true, length, slice_index, IfOk};
+ghost use Rattle.std.specs.Prelude.{◌≡◌, ◌<◌, ◌+◌, ◌*◌, ◌^◌, ℕ, true, length, slice_index, IfOk};
 ghost use Rattle.bl_flow.specs.{declared.network.Network.Network, Flows.IsFlow, Flows.LeadsBack};
 ghost use Rattle.bl_flow.specs.{Split.link_at, PackedNetworks.IsPacked};
 

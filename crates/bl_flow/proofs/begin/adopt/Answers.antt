@@ -1,4 +1,4 @@
-use Rattle.std.proofs.Common.{arith, ◌≡◌, ◌+◌, ◌*◌, true, sym, subst, length, slice_index}
+use Rattle.std.proofs.Common.{arith, ◌≡◌, ◌+◌, ◌*◌, true, subst, length, slice_index}
 use Rattle.std.specs.Prelude.{IfSome}
 use Rattle.bl_flow.specs.Flows.{Carries}
 use Rattle.bl_flow.specs.Capacities.{AreCarrying}

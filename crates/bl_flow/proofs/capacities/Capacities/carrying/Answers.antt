@@ -1,4 +1,4 @@
-use Rattle.std.proofs.Common.{arith, ◌≡◌, ◌<◌, ◌≤◌, ℕ, true, length, slice_index, sym, subst}
+use Rattle.std.proofs.Common.{arith, ◌≡◌, ◌<◌, ◌≤◌, ℕ, true, length, slice_index, subst}
 use Rattle.std.specs.Prelude.{IfSome}
 use Rattle.bl_flow.specs.Capacities.{both_capacities, AreCarrying, AreLeft}
 use Rattle.bl_flow.proofs.Carryings.{carrying}
