@@ -53,8 +53,8 @@ struct Preflow {
 /// Each part with an excess pushes it on to lower parts, the highest part first. If no lower part can take more, the part
 /// rises. After following an eighth of all links both ways, a search from the target makes heights exact. An excess that
 /// can't come to the end is pushed back to the source in the same way.
-/// The cost: O(V^2 E^(1/2)) for V nodes and E arcs. It is in proportion to the network on a fan, whose paths share one long
-/// chain, and on each stretch of a ladder that one path needs.
+/// The cost: O(V^2 E^(1/2)) for V nodes and E arcs. On a fan, whose paths share a long chain, the cost is in proportion to
+/// the network; on a ladder, to the network times the rungs.
 /// The source: Goldberg and Tarjan, A new approach to the maximum-flow problem, 1988; Cheriyan and Maheshwari, Analysis of
 /// preflow push algorithms for maximum network flow, 1989, for the highest part; Cherkassky and Goldberg, On implementing
 /// the push-relabel method for the maximum flow problem, 1997, for exact heights.
