@@ -1,9 +1,11 @@
 """What formats/FORMATS.md says of bytes that are refused, as edits of its worked bytes, for tools/checks/formats. Licence: public domain (CC0)."""
+from __future__ import annotations
+
 NO_IMAGE = "image: not an image"
 READ = "certificate "  # the image is read and well-formed: verify goes on to the certificate
 
 
-def rule(number, position=0):
+def rule(number: int, position: int = 0) -> str:
     return f"image: rule {number} at {position}"
 
 

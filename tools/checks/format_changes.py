@@ -1,8 +1,12 @@
 """Seeded changes of images and certificates, by which tools/checks/formats compares formats/read.py with the program: bytes, numbers and commands of
 images, demands and weights for images without, texts and numbers of certificates. Licence: public domain (CC0)."""
+from __future__ import annotations
+
+import random
 import json
 import re
 from unittest import mock
+from typing import Any, Tuple, Union
 
 import read as outside
 from blade_companions.formats.encoding import leb
@@ -18,37 +22,37 @@ NAMES = ["amount", "sink", "sites", "weight", "paths", "x"]
 class Recorder(outside.Bytes):
     """Bytes that keep each number, each other piece, and where commands begin."""
 
-    def __init__(self, contents):
+    def __init__(self, contents: bytes) -> None:
         super().__init__(contents)
         self.pieces, self.starts, self.in_number = [], [], False
 
-    def some(self, count):
+    def some(self, count: int) -> bytes:
         found = super().some(count)
         if not self.in_number:
             self.pieces.append(found)
         return found
 
-    def number(self, bits=32):
+    def number(self, bits: int = 32) -> int:
         self.in_number = True
         value = super().number(bits)
         self.in_number = False
         self.pieces.append(value)
         return value
 
-    def field(self, name):
+    def field(self, name: str) -> Union[Any, int]:
         if name == "code":
             self.starts.append(self.place)
         return super().field(name)
 
 
-def recorded(image):
+def recorded(image: bytes) -> Tuple[Recorder, Any]:
     """The recorder of an image, and its program."""
     recorder = Recorder(image)
     with mock.patch.object(outside, "Bytes", lambda _: recorder):
         return recorder, outside.Program(image)
 
 
-def listed(chance, image):
+def listed(chance: random.Random, image: bytes) -> bytes:
     """An image of version 01 as one of version 02, with some demands and weights."""
     recorder, program = recorded(image)
     demands = [bytes([0]) + leb(at) + leb(index) for at, function in enumerate(program.functions) for index in range(function.results)]
@@ -63,7 +67,7 @@ def listed(chance, image):
     return image[:4] + b"\2" + image[5 : recorder.starts[0]] + lists + image[recorder.starts[0] :]
 
 
-def image_bytes(chance, image):
+def image_bytes(chance: random.Random, image: bytes) -> bytes:
     """Some bytes changed, put in or taken out, or the end cut off."""
     data = bytearray(image)
     for _ in range(chance.choice([1, 1, 2, 3])):
@@ -78,7 +82,7 @@ def image_bytes(chance, image):
     return bytes(data)
 
 
-def image_numbers(chance, image):
+def image_numbers(chance: random.Random, image: bytes) -> bytes:
     """Some numbers or codes changed, or a number spelled longer."""
     pieces = recorded(image)[0].pieces
     numbers = [at for at, it in enumerate(pieces) if isinstance(it, int)]
@@ -96,7 +100,7 @@ def image_numbers(chance, image):
     return b"".join(leb(it, at == longer) if isinstance(it, int) else it for at, it in enumerate(pieces))
 
 
-def image_commands(chance, image):
+def image_commands(chance: random.Random, image: bytes) -> bytes:
     """Some commands changed for others, or protected or not."""
     starts = recorded(image)[0].starts + [len(image)]
     commands = [image[one:other] for one, other in zip(starts, starts[1:])]
@@ -111,7 +115,7 @@ def image_commands(chance, image):
     return image[: starts[0]] + b"".join(commands)
 
 
-def certificate_text(chance, text):
+def certificate_text(chance: random.Random, text: str) -> str:
     """A number spelled otherwise, something put in, a byte changed, the end cut off, a key twice or deep arrays."""
     kind, keys, numbers = chance.randrange(8), list(re.finditer(r'"\w+":', text)), list(re.finditer(r"\d+", text))
     at, key, number = chance.randrange(len(text)), chance.choice(keys), chance.choice(numbers)
@@ -130,7 +134,7 @@ def certificate_text(chance, text):
     return text[:at] + text[at + 1 :]
 
 
-def certificate_numbers(chance, text):
+def certificate_numbers(chance: random.Random, text: str) -> str:
     """Amounts, sinks, sites and the weight changed, paths doubled, split or left out."""
     value = json.loads(text)
     for _ in range(chance.choice([1, 1, 2])):

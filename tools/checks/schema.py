@@ -1,10 +1,13 @@
 """JSON schemas, as far as those of this repository go: what of a value isn't as one says. Licence: public domain (CC0)."""
+from __future__ import annotations
+
 import json
+from typing import Any, Dict, List
 
 KINDS = {"object": dict, "array": list, "string": str, "integer": int, "boolean": bool, "null": type(None)}
 
 
-def fits(value, shape, whole, path="$"):
+def fits(value: Any, shape: Any, whole: Dict[str, Any], path: str = "$") -> List[str]:
     """What of a value isn't as a JSON schema says: of the words that those here use. Of integers those alone that are written without point and exponent."""
     if "$ref" in shape:
         shape = {**whole["$defs"][shape["$ref"].rsplit("/", 1)[-1]], **{word: one for word, one in shape.items() if word != "$ref"}}
@@ -18,7 +21,7 @@ def fits(value, shape, whole, path="$"):
     return members(value, shape, whole, path) if isinstance(value, dict) else []
 
 
-def members(value, shape, whole, path):
+def members(value: Any, shape: Dict[str, Any], whole: Dict[str, Any], path: str) -> List[str]:
     """What of an object's members isn't so."""
     known, others = shape.get("properties", {}), shape.get("additionalProperties", {})
     found = [f"{path}.{key} is missing" for key in shape.get("required", []) if key not in value]
@@ -28,6 +31,6 @@ def members(value, shape, whole, path):
     return found
 
 
-def read_json(path):
+def read_json(path: str) -> Dict[str, Any]:
     with open(path, encoding="utf-8") as file:
         return json.load(file)

@@ -8,7 +8,7 @@ import shlex
 import subprocess
 from typing import List, NamedTuple, Tuple
 
-from harness import COMPANIONS, EXAMPLES, ran
+from harness import COMPANIONS, EXAMPLES, Check, ran
 
 NOTHING, WITNESSED, USAGE, UNREAD, SHOWN = range(5)
 LIMIT = "600"  # seconds of a search that has to end by itself, on a machine that does other things too
@@ -70,7 +70,7 @@ QUIET = [
 ]
 
 
-def modules_of(check, image: str) -> List[str]:
+def modules_of(check: Check, image: str) -> List[str]:
     """The modules of an image, where there are lines in them."""
     folder, name = check.folder, image.split(".")[0]
     peers = {"guesses": ["vault"], "index": ["vault"], "frame": ["vault"], "address": ["vault"], "handle": ["vault"], "into": ["ledger"], "piece": ["ledger"]}
@@ -83,7 +83,7 @@ def modules_of(check, image: str) -> List[str]:
     return [f"{folder}/{peer}.wasm" for peer in peers.get(name, [])] + [f"{folder}/{name}.wasm"] if name in peers else []
 
 
-def compiled(check, name: str, to: str, flags: Tuple[str, ...] = ()) -> None:
+def compiled(check: Check, name: str, to: str, flags: Tuple[str, ...] = ()) -> None:
     """A module of C with lines and a memory that doesn't grow."""
     os.makedirs(os.path.dirname(to), exist_ok=True)
     clang = "clang --target=wasm32 -mcpu=mvp -O2 -ffreestanding -g".split()
@@ -93,7 +93,7 @@ def compiled(check, name: str, to: str, flags: Tuple[str, ...] = ()) -> None:
     subprocess.run(["wasm-opt", "-g", "--untee", "--ssa", f"{to}.linked", "-o", to], check=True, stderr=subprocess.DEVNULL)
 
 
-def make_images(check) -> None:
+def make_images(check: Check) -> None:
     """Those that no other check makes."""
     folder, label = check.folder, f"{COMPANIONS}/blade-label"
     subprocess.run([label, "--replace", f"{EXAMPLES}/compare.wasm", f"{folder}/compare.wasm", "secret-memory", "0", "public-result", "0", "0"], check=True)
@@ -112,7 +112,7 @@ def make_images(check) -> None:
         check.blade("lower", f"{folder}/{name}.low.img", *modules_of(check, name))
 
 
-def searched(check, leak: Leak, out: str, *words: str) -> Tuple[int, str]:
+def searched(check: Check, leak: Leak, out: str, *words: str) -> Tuple[int, str]:
     """The status and the text of a search."""
     start = f"{check.folder}/{out}.start"
     with open(start, "w", encoding="ascii") as file:
@@ -122,7 +122,7 @@ def searched(check, leak: Leak, out: str, *words: str) -> Tuple[int, str]:
     return done.returncode, done.stdout + (done.stderr if done.returncode in (USAGE, UNREAD) else "")
 
 
-def replayed(check, out: str, text: str) -> str:
+def replayed(check: Check, out: str, text: str) -> str:
     """What is wrong where the program alone judges what a search wrote, twice: it must tell the runs apart where the text says, in its words."""
     with open(f"{check.folder}/{out}.again", encoding="utf-8") as file:
         words = shlex.split(file.read())
@@ -135,7 +135,7 @@ def replayed(check, out: str, text: str) -> str:
     return "" if first.stdout == second.stdout else "the program says another thing the second time"
 
 
-def fault_of(check, number: int, leak: Leak, *words: str) -> str:
+def fault_of(check: Check, number: int, leak: Leak, *words: str) -> str:
     if not os.path.exists(f"{check.folder}/{leak.image}.img"):
         return "there is no image: the other checks make it"
     status, text = searched(check, leak, f"found{number}", *words)
@@ -149,7 +149,7 @@ def name_of(leak: Leak) -> str:
     return f"{leak.export} of {leak.image}{' ' * bool(leak.words)}{leak.words}"
 
 
-def witnesses(check) -> None:
+def witnesses(check: Check) -> None:
     """Each known leak is witnessed, and replayed."""
     make_images(check)
     for number, leak in enumerate(LEAKS):
@@ -161,7 +161,7 @@ def witnesses(check) -> None:
     refused(check)
 
 
-def same(check) -> None:
+def same(check: Check) -> None:
     """One seed gives one answer, whatever the processors and the limit in time."""
     for leak in (LEAKS[0], next(one for one in LEAKS if one.export == "guesses/branch")):
         told = []
@@ -175,7 +175,7 @@ def same(check) -> None:
         check.say(f"{name_of(leak)}: one processor finds what all find", told[0] == told[1], f"{told}")
 
 
-def by_hand(check) -> None:
+def by_hand(check: Check) -> None:
     """The table of lookup stands at 1024: the addresses are those of the two indices."""
     indices = [int(open(f"{check.folder}/found0.{name}.start", encoding="ascii").read().split()[1]) for name in ("a", "b")]
     text = searched(check, LEAKS[0], "found0")[1]
@@ -184,11 +184,11 @@ def by_hand(check) -> None:
     check.say("lookup: the addresses are those of the indices", told and [int(told[1]), int(told[2])] == wanted and indices[0] == 3, text)
 
 
-def explain(check, *words: str) -> Tuple[int, str]:
+def explain(check: Check, *words: str) -> Tuple[int, str]:
     return ran(f"{COMPANIONS}/blade-explain", f"{check.folder}/lookup.img", f"{EXAMPLES}/lookup.wasm", "--blade", check.program, *words)
 
 
-def explained(check) -> None:
+def explained(check: Check) -> None:
     """blade-explain says what the run and the witness show; a witness that isn't one is refused."""
     out = f"{check.folder}/found0"
     written = [f"{check.folder}/explained.{end}" for end in ("html", "sarif", "json")]
@@ -209,7 +209,7 @@ def explained(check) -> None:
     check.say("blade-explain: two equal starts are no witness", status == UNREAD and "says nothing of a leak" in text, f"{status} {text}")
 
 
-def refused(check) -> None:
+def refused(check: Check) -> None:
     """What can't be searched, and a search that time ends."""
     lookup = LEAKS[0]
     for words, status, told in ((["--keep", "0:x:1"], UNREAD, "M:OFFSET:SIZE"), (["--secret", "0:16:4"], UNREAD, "isn't declared secret"), (["--what"], USAGE, "")):
@@ -228,7 +228,7 @@ ROUTINES = {"chacha20": "chacha20/chacha20", "poly1305": "poly1305/poly1305", "s
             "aes128": "aes128/aes128", "x25519": "x25519/x25519"}
 
 
-def quiet(check) -> None:
+def quiet(check: Check) -> None:
     """Nothing is found where the code is constant-time; where the verdict is yes a witness would be a hole in a theorem."""
     for number, leak in enumerate(QUIET, 100):
         leak = leak._replace(status=NOTHING)
