@@ -23,7 +23,7 @@ from .verdict.flow import Findings, find
 from .verdict.guesses import Guesser, settle
 from .formats.image import Image, image_at
 from .c.lines import Lines
-from .formats.lowering import Linked, lower
+from .formats.lowering import LinkedFunction, lower
 from .formats.certificate import Protect, protects_of, read_certificate
 from .formats.labels import is_labelled
 from .formats.reading import read_file, read_text
@@ -88,7 +88,7 @@ def words_of(words: Sequence[str]) -> argparse.Namespace:
     return parser.parse_args(list(words))
 
 
-def listing(functions: Sequence[Linked], asked: Optional[Sequence[int]]) -> None:
+def listing(functions: Sequence[LinkedFunction], asked: Optional[Sequence[int]]) -> None:
     """Instructions with their positions, their places in the file and in the code section, and their commands."""
     wanted = set(asked or ())
     for number, linked in enumerate(functions):
@@ -100,7 +100,7 @@ def listing(functions: Sequence[Linked], asked: Optional[Sequence[int]]) -> None
             say(f"{first:>7} {row.place:#07x} {row.place - linked.module.code:#07x}  {row.text:<20} {' '.join(row.kinds)}".rstrip())
 
 
-def functions_of(image: Image, paths: Sequence[str]) -> Tuple[List[Linked], List[str]]:
+def functions_of(image: Image, paths: Sequence[str]) -> Tuple[List[LinkedFunction], List[str]]:
     """The functions of modules, where they are those of the image, and else why not."""
     if not paths:
         return [], []
@@ -165,7 +165,7 @@ def explain(words: argparse.Namespace) -> int:
     return DIFFERS if differ else DONE
 
 
-def notes(words: argparse.Namespace, functions: Sequence[Linked], lines: Lines) -> List[str]:
+def notes(words: argparse.Namespace, functions: Sequence[LinkedFunction], lines: Lines) -> List[str]:
     """Why less is told than could be."""
     modules = list({one.module.path: one.module for one in functions}.values())
     told = [f"warning: {module.path}: what its source declares secret by blade.h isn't in its labels: blade-label puts it there"

@@ -15,7 +15,7 @@ It ends with 0; 1 where the interface and the library don't fit, and nothing is 
 3 for files that it can't read or write."""
 import os
 import sys
-from typing import Sequence
+from typing import List, Optional, Sequence, Tuple
 
 from .ending import ended
 from .formats.interface import Linked, faults, read_interface, stub_of, unfit
@@ -26,7 +26,7 @@ from .writing import write_file
 DONE, WRONG, USAGE = 0, 1, 2
 
 
-def parted(words):
+def parted(words: List[str]) -> Optional[Tuple[List[str], str, List[str]]]:
     """The modules in front of the interface, the interface, and those behind it; None where the words aren't of this kind."""
     others = [at for at, word in enumerate(words) if not word.endswith(".wasm")]
     if len(others) != 1 or any(word.startswith("-") for word in words):
@@ -35,7 +35,7 @@ def parted(words):
     return (before, words[others[0]], behind) if before and behind else None
 
 
-def make(libraries, interface, stubs):
+def make(libraries: Sequence[str], interface: str, stubs: Sequence[str]) -> int:
     """Writes the stubs, or tells why there are none."""
     lines, library = read_interface(interface), Linked([read_module(path) for path in libraries])
     names = [name_of_file(path) for path in stubs]
@@ -53,7 +53,7 @@ def make(libraries, interface, stubs):
     return DONE
 
 
-def check(stubs, interface, libraries, users):
+def check(stubs: Sequence[str], interface: str, libraries: Sequence[str], users: Sequence[str]) -> int:
     lines = read_interface(interface)
     told = faults(lines, *([read_module(path) for path in paths] for paths in (stubs, libraries, users)))
     for one in told:
@@ -63,13 +63,13 @@ def check(stubs, interface, libraries, users):
     return WRONG if told else DONE
 
 
-def is_over(paths, others):
+def is_over(paths: Sequence[str], others: Sequence[str]) -> bool:
     """Whether a file that is written is one that is read, or two are one."""
     real = [os.path.realpath(path) for path in paths]
     return len(set(real)) < len(real) or not set(real).isdisjoint(os.path.realpath(path) for path in others)
 
 
-def run(words):
+def run(words: List[str]) -> int:
     if words in (["--help"], ["-h"]):
         print(__doc__)
         return DONE
@@ -83,7 +83,7 @@ def run(words):
 
 
 def main(words: Sequence[str]) -> int:
-    return ended("blade-stub", lambda: run(words))
+    return ended("blade-stub", lambda: run(list(words)))
 
 
 if __name__ == "__main__":

@@ -9,7 +9,7 @@ its bounds test. Or counts what a run executes. It runs the image apart from the
 It ends with 0; 1 where what is counted hadn't ended after so many commands, which is said as `spent N`; 2 for words that it doesn't know; 3 for files
 that it can't read."""
 import sys
-from typing import Sequence
+from typing import List, Optional, Sequence, Tuple
 
 from .ending import ended
 from .formats.image import image_at
@@ -22,7 +22,7 @@ LINES = 1_000_000
 DONE, SPENT, USAGE = 0, 1, 2
 
 
-def asked(words):
+def asked(words: Sequence[str]) -> Optional[Tuple[List[str], bool, int]]:
     """The three words, whether to count, and the most commands; None where the words aren't of this kind."""
     words, counting, most = list(words), "--count" in words, None
     if counting:
@@ -36,7 +36,7 @@ def asked(words):
     return words, counting, int(most) if most is not None else COUNTED if counting else TRACED
 
 
-def run(words):
+def run(words: Sequence[str]) -> int:
     if words in (["--help"], ["-h"]):
         print(__doc__)
         return DONE

@@ -6,7 +6,7 @@ from typing import Tuple
 
 from blade_companions.formats.image import SITES
 from blade_companions.c.lines import Spot
-from blade_companions.formats.lowering import Linked, Row
+from blade_companions.formats.lowering import LinkedFunction, Row
 from blade_companions.formats.metadata import held_at
 
 # An instruction, its commands, and of each the kind and the number of what it holds back; - where it is no site, and . for what stands at a function's entry.
@@ -33,7 +33,7 @@ def held(text: str, kinds: Tuple[str, ...], at: int) -> str:
     """What the command at a place of an instruction holds back, as CASES spell it."""
     if kinds[at] not in SITES:
         return "-"
-    found = held_at(Spot(0, Linked(None, 0), Row(100, 0, text, kinds)), 100 + at)
+    found = held_at(Spot(0, LinkedFunction(None, 0), Row(100, 0, text, kinds)), 100 + at)
     return "." if found is None else f"{found.what}:{found.number}" if found.what else str(found.what)
 
 

@@ -28,7 +28,7 @@ class Line(NamedTuple):
         return module, export if solidus else None
 
 
-class Found(NamedTuple):
+class Defined(NamedTuple):
     """A function: the module that defines it, and its number there."""
 
     module: Module
@@ -65,7 +65,7 @@ class Linked:
         self.modules = modules
         self.places = {module.name: place for place, module in enumerate(modules)}
 
-    def function(self, module: str, export: Optional[str]) -> Optional[Found]:
+    def function(self, module: str, export: Optional[str]) -> Optional[Defined]:
         """The function that a module exports under a name, where it is defined."""
         end = len(self.modules)
         while self.places.get(module, end) < end:
@@ -73,7 +73,7 @@ class Linked:
             index = self.modules[end].exports.get((FUNCTION, export))
             imported = self.modules[end].imported(FUNCTION)
             if index is None or index >= len(imported):
-                return None if index is None else Found(self.modules[end], index)
+                return None if index is None else Defined(self.modules[end], index)
             module, export = imported[index].module, imported[index].name
         return None
 

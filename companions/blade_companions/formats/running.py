@@ -4,13 +4,14 @@ from __future__ import annotations
 import re
 from collections import Counter
 from dataclasses import dataclass, field
-from typing import Callable, Dict, Iterator, List, Tuple
+from typing import Callable, Dict, Iterator, List, Optional, Tuple
 
-from .image import TRAPS, Image
+from .image import TRAPS, Command, Image, Operand
 from .operators import ACCESS_NAMES, DIVISIONS, MOVE, OPERATIONS, OPERATORS, OUTSIDE, SELECT, width_of
 from .reading import MOST_CALLS, Bad
 
 PAGE = 65536
+Step = Tuple[int, Command, Optional[bool]]  # a position, its command, and whether the condition of a Test isn't 0
 
 
 def signed(value: int, bits: int) -> int:
@@ -128,7 +129,7 @@ class Run:
         self.widths = {code: width_of(name) for code, name in ACCESS_NAMES.items()}
         self.extends = {code: (width_of(name) * 8, int(name[1:3])) for code, name in ACCESS_NAMES.items() if name.endswith("_s")}
 
-    def value(self, operand) -> int:
+    def value(self, operand: Operand) -> int:
         if not operand[0]:
             return operand[1]
         variable = operand[1]
@@ -140,7 +141,7 @@ class Run:
         else:
             self.frames[-1][variable] = value
 
-    def step(self):
+    def step(self) -> Step:
         """Executes one command, and gives its position, it, and where a Test leads whether its condition isn't 0."""
         position = self.position
         command = self.image.commands[position]
@@ -159,7 +160,7 @@ class Run:
             self.move(command)
         return position, command, taken
 
-    def access(self, command) -> None:
+    def access(self, command: Command) -> None:
         at, size = (self.value(command.operands[0]) & 0xFFFFFFFF) + command.offset, self.widths[command.operator]
         space = self.spaces[command.memory]
         if command.kind == "Store":
@@ -172,7 +173,7 @@ class Run:
             value = signed(value, narrow) & ((1 << wide) - 1)
         self.write(command.writes, value)
 
-    def move(self, command) -> None:
+    def move(self, command: Command) -> None:
         """Arg, Out, Call, Ret and Trap."""
         if command.kind == "Arg":
             self.entering[command.writes] = self.value(command.operands[0])
@@ -189,7 +190,7 @@ class Run:
         else:
             self.left = True
 
-    def steps(self, most: int) -> Iterator[tuple]:
+    def steps(self, most: int) -> Iterator[Step]:
         """Its steps to its end, or so many."""
         for _ in range(most):
             if self.left:
@@ -208,7 +209,7 @@ def counts(run: Run, most: int) -> Counter:
     return found
 
 
-def freed(entry: int, command) -> List[str]:
+def freed(entry: int, command: Command) -> List[str]:
     """A protected value is held back at first, and set free by executing it once more."""
     return [f"exec {entry}"] * (command.mark >= 8)
 
@@ -227,7 +228,7 @@ def traced(run: Run, most: int) -> Iterator[str]:
             yield from ("fetch", "exec 0", *freed(0, command), "retire")
 
 
-def access_trace(bounds, steps) -> Iterator[str]:
+def access_trace(bounds: Command, steps: Iterator[Step]) -> Iterator[str]:
     """The bounds, their test and the access behind them, which is executed first."""
     _, _, outside = next(steps)
     if outside:

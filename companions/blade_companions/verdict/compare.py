@@ -2,15 +2,15 @@
 from __future__ import annotations
 
 import re
-from typing import Dict, List, Optional, Sequence, Tuple
+from typing import Dict, List, Optional, Sequence, Set, Tuple
 
 from .flow import Findings, is_bounds_test
 from ..formats.image import TRAPS, Image
-from ..formats.lowering import Linked
+from ..formats.lowering import LinkedFunction
 from ..formats.certificate import Protect
 
 
-def positions_differ(image: Image, functions: Sequence[Linked]) -> List[str]:
+def positions_differ(image: Image, functions: Sequence[LinkedFunction]) -> List[str]:
     """Where the commands that the modules' instructions become aren't those of the image."""
     if len(functions) != len(image.functions):
         return [f"the modules have {len(functions)} functions, the image {len(image.functions)}"]
@@ -82,7 +82,7 @@ def is_chain(found: Findings, declared: str, sites: Sequence[int], end: int) -> 
     return bool(variables) and ends_there(found, variables, sites, end)
 
 
-def ends_there(found: Findings, variables, sites: Sequence[int], end: int) -> bool:
+def ends_there(found: Findings, variables: Set[int], sites: Sequence[int], end: int) -> bool:
     commands = found.graph.commands
     if any(one.position == end and one.variable in variables for one in found.ends):
         return True

@@ -4,7 +4,7 @@ from __future__ import annotations
 
 from collections import defaultdict
 from dataclasses import dataclass, field
-from typing import Dict, Iterable, List, NamedTuple, Optional, Sequence, Set, Tuple
+from typing import Dict, Iterable, Iterator, List, NamedTuple, Optional, Sequence, Set, Tuple
 
 from ..formats.image import Command, Image
 from ..formats.operators import OUTSIDE
@@ -209,7 +209,7 @@ class Components:
             if start not in self.order:
                 self.visit(start)
 
-    def enter(self, variable: int):
+    def enter(self, variable: int) -> Tuple[int, Iterator[int]]:
         """Numbers a variable, and gives it with the variables that it goes to."""
         self.order[variable] = self.low[variable] = len(self.order)
         self.stack.append(variable)

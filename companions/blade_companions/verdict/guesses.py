@@ -6,7 +6,7 @@ from collections import defaultdict
 from typing import TYPE_CHECKING, Dict, List, NamedTuple, Optional, Sequence, Set, Tuple
 
 from .flow import DEMANDED, STORED, Findings, Origin
-from ..formats.image import Command
+from ..formats.image import Command, Image
 from ..c.lines import Lines
 
 if TYPE_CHECKING:
@@ -186,7 +186,7 @@ def may_follow(found: Findings, first: int, second: int) -> bool:
     return walk(found, variable, first + 1, second)
 
 
-def is_own(image, function: int, variable: int) -> bool:
+def is_own(image: Image, function: int, variable: int) -> bool:
     """Whether a variable is a local one of the function, which no call changes."""
     defined = image.functions[function]
     index = variable - defined.first

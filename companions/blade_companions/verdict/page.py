@@ -17,7 +17,7 @@ from ..formats.operators import ACCESS_NAMES, KINDS
 from ..formats.certificate import Protect, function_name
 from .evidence import Evidence
 from .text import by_line, declared_text, evidence_text, kinds_text, verdict_text
-from ..printing import all_shown, shown
+from ..printing import all_printable, printable
 
 WAYS = 12  # so many ends of a cause get a way that can be clicked
 STEPS = 200  # so many sites of a way are kept, half of them at each end
@@ -112,13 +112,13 @@ def page_of(path: str, found: Findings, causes: Sequence[Cause], protects: Seque
         "refused": sorted({end.position for end in found.refused})}
     with open(os.path.join(os.path.dirname(os.path.abspath(__file__)), "page.html"), encoding="utf-8") as file:
         template = file.read()
-    words = {"TITLE": html.escape(shown(os.path.basename(path))), "DATA": spelled(data), "POLICY": policy(template)}
+    words = {"TITLE": html.escape(printable(os.path.basename(path))), "DATA": spelled(data), "POLICY": policy(template)}
     return re.sub("@([A-Z]+)@", lambda found: words[found[1]], template)
 
 
 def spelled(data: dict) -> str:
     """JSON in which nothing ends the element that it stands in, or begins another."""
-    text = json.dumps(all_shown(data), separators=(",", ":"))
+    text = json.dumps(all_printable(data), separators=(",", ":"))
     return text.replace("<", "\\u003c").replace(">", "\\u003e").replace("&", "\\u0026")
 
 

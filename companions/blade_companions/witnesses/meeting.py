@@ -5,9 +5,10 @@ from __future__ import annotations
 from typing import Dict, List, Sequence, Set, Tuple
 
 from ..verdict.flow import Origin, demanded_variables
-from ..formats.image import Image, Operand
+from ..formats.image import Command, Image, Operand
 from ..formats.operators import DIVISIONS
 from .pairs import Secret
+from ..formats.running import Step
 from .steering import Recorded
 
 Key = Tuple[int, int]  # a position and a variable, as an end has them
@@ -83,7 +84,7 @@ class Meeting(Recorded):
         self.meet(position, operand[1], mark)
         return mark
 
-    def step(self):
+    def step(self) -> Step:
         command = self.image.commands[self.position]
         self.count += 1
         follow = self.ways.get(command.kind)
@@ -91,21 +92,21 @@ class Meeting(Recorded):
             follow(self.position, command)
         return super().step()
 
-    def follow_set(self, position: int, command) -> None:
+    def follow_set(self, position: int, command: Command) -> None:
         mark = 0
         for operand in command.operands:
             mark |= self.see(position, operand) if command.operator in DIVISIONS else self.mark(operand)
         self.put(self.fixed if command.writes < self.bound else self.marks[-1], position, command.writes, mark)
 
-    def follow_test(self, position: int, command) -> None:
+    def follow_test(self, position: int, command: Command) -> None:
         self.see(position, command.operands[0])
 
-    def touched(self, command) -> range:
+    def touched(self, command: Command) -> range:
         """The bytes of an access."""
         at = (self.value(command.operands[0]) & 0xFFFFFFFF) + command.offset
         return range(at, at + self.widths[command.operator])
 
-    def follow_load(self, position: int, command) -> None:
+    def follow_load(self, position: int, command: Command) -> None:
         mark, marks = self.see(position, command.operands[0]), self.bytes[command.memory]
         for place in self.touched(command):
             mark |= marks.get(place, 0)
@@ -114,7 +115,7 @@ class Meeting(Recorded):
             self.loads[position] = self.loads.get(position, 0) | mark
         self.put(self.fixed if command.writes < self.bound else self.marks[-1], position, command.writes, mark)
 
-    def follow_store(self, position: int, command) -> None:
+    def follow_store(self, position: int, command: Command) -> None:
         mark = self.see(position, command.operands[0]) | self.mark(command.operands[1])
         if not self.image.memories[command.memory].is_secret:
             self.see(position, command.operands[1])
@@ -125,17 +126,17 @@ class Meeting(Recorded):
             else:
                 marks.pop(place, None)
 
-    def follow_arg(self, position: int, command) -> None:
+    def follow_arg(self, position: int, command: Command) -> None:
         self.put(self.given, position, command.writes, self.mark(command.operands[0]))
 
-    def follow_out(self, position: int, command) -> None:
+    def follow_out(self, position: int, command: Command) -> None:
         self.put(self.marks[-2], position, command.writes, self.mark(command.operands[0]))
 
-    def follow_call(self, _: int, __) -> None:
+    def follow_call(self, _: int, __: Command) -> None:
         self.marks.append(self.given)
         self.given = {}
 
-    def follow_ret(self, _: int, __) -> None:
+    def follow_ret(self, _: int, __: Command) -> None:
         if self.returns:
             self.marks.pop()
 
