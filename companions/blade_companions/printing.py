@@ -1,5 +1,5 @@
-"""Words of others as they are printed: names in modules, paths, lines of sources. Nothing in them ends a line, moves the cursor or turns the text round.
-Licence: public domain (CC0)."""
+"""Words of others as they are printed: names in modules, paths, lines of sources. Nothing in them ends a
+line, moves the cursor or turns the text round. Licence: public domain (CC0)."""
 from __future__ import annotations
 
 import sys
@@ -10,7 +10,8 @@ LONG = 200  # so many letters of a name are told
 
 def printable(text: str) -> str:
     """The text with all letters spelled that don't print: \\n, \\x1b, \\u202e."""
-    return text if text.isprintable() else "".join(letter if letter.isprintable() else spelled(letter) for letter in text)
+    return (text if text.isprintable()
+            else "".join(letter if letter.isprintable() else spelled(letter) for letter in text))
 
 
 def spelled(letter: str) -> str:

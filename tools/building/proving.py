@@ -1,5 +1,6 @@
-"""What tools/rlibs and tools/building/build share: where the kit and the proved libraries are, what a crate stands on, whether it is built from
-the files as they are, and the run that proves crates side by side, lowest first."""
+"""What tools/rlibs and tools/building/build share: where the kit and the proved libraries are, what a crate
+stands on, whether it is built from the files as they are, and the run that proves crates side by side, lowest
+first."""
 from __future__ import annotations
 
 import fcntl
@@ -33,14 +34,15 @@ def identity(folder: str) -> str:
 
 
 def cache() -> str:
-    """A folder for what is built of this repository. It is outside: built libraries have sources in them, and the gate refuses a repository
-    with sources that no check reads, and with links."""
+    """A folder for what is built of this repository. It is outside: built libraries have sources in them, and
+    the gate refuses a repository with sources that no check reads, and with links."""
     base = os.environ.get('XDG_CACHE_HOME') or os.path.expanduser('~/.cache')
     return os.path.join(base, 'blade', hashlib.sha256(TOP.encode()).hexdigest()[:16])
 
 
 def rlibs() -> Any:
-    """Where proved libraries are kept: RLIBS, or rlibs/ beside the repository where that is there, or in its cache."""
+    """Where proved libraries are kept: RLIBS, or rlibs/ beside the repository where that is there, or in its
+    cache."""
     beside = os.path.join(os.path.dirname(TOP), 'rlibs')
     return os.environ.get('RLIBS') or (beside if os.path.isdir(beside) else os.path.join(cache(), 'rlibs'))
 
@@ -57,7 +59,8 @@ def read_crates() -> Any:
 
 
 def read_layers() -> Any:
-    """The layers of crates.txt, lowest first: the name of each, and its crates in order. The crates of tests are in the last."""
+    """The layers of crates.txt, lowest first: the name of each, and its crates in order. The crates of tests
+    are in the last."""
     layers = []
     for line in open(os.path.join(TOP, 'crates.txt')):
         if line.startswith('# ---- '):
@@ -82,7 +85,8 @@ def below(name: str, found: Any = None) -> Any:
 
 def root_of(name: str) -> str:
     """A crate's root file, from its folder."""
-    return 'src/lib.rt' if os.path.isfile(os.path.join(TOP, 'crates', name, 'src', 'lib.rt')) else 'src/main.rt'
+    return ('src/lib.rt' if os.path.isfile(os.path.join(TOP, 'crates', name, 'src', 'lib.rt'))
+            else 'src/main.rt')
 
 
 def files_of(name: str) -> Iterator[Any]:
@@ -142,12 +146,14 @@ class Runs:
     def start(self, name: str, words: Sequence[str], folder: str, log: Any) -> None:
         """Starts a command in a group of its own."""
         out = open(log, 'w')
-        how = {'cwd': folder, 'stdin': subprocess.DEVNULL, 'stdout': out, 'stderr': out, 'start_new_session': True}
+        how = {'cwd': folder, 'stdin': subprocess.DEVNULL, 'stdout': out, 'stderr': out,
+               'start_new_session': True}
         self.running[name] = subprocess.Popen([*guard(), *words], **how), time.time()
 
     def ended(self) -> Any:
         """The commands that have ended since, each with its status and seconds."""
-        found = [(name, ran.returncode, time.time() - begun) for name, (ran, begun) in self.running.items() if ran.poll() is not None]
+        found = [(name, ran.returncode, time.time() - begun) for name,
+                 (ran, begun) in self.running.items() if ran.poll() is not None]
         for name, _, _ in found:
             del self.running[name]
         return found
@@ -207,8 +213,8 @@ class Libraries:
             words += ['--extern', f'{lower}={root}/{lower}.rlib']
         for lower in sorted(below(name)):
             words += ['-L', f'dependency={self.folder}/{lower}']
-        return words + ['--antt-project', f'{self.kit}/rattle/logic/antt-project.json', '--logic-built', f'{self.kit}/logic_built',
-                        '--links', f'{name}=', '--jobs', str(jobs)]
+        return words + ['--antt-project', f'{self.kit}/rattle/logic/antt-project.json', '--logic-built',
+                        f'{self.kit}/logic_built', '--links', f'{name}=', '--jobs', str(jobs)]
 
     def start(self, runs: Any, name: str, jobs: Any) -> None:
         """Starts the proof of a library, which is built where it ends well."""
@@ -230,14 +236,17 @@ class Libraries:
 
 
 def chain(name: str, guesses: Any, made: Any) -> Any:
-    """The seconds of a crate and of the longest chain of crates that stand on it; `made` keeps those that are known."""
+    """The seconds of a crate and of the longest chain of crates that stand on it; `made` keeps those that are
+    known."""
     if name not in made:
-        made[name] = guesses[name] + max([chain(it, guesses, made) for it in guesses if name in CRATES[it]], default=0)
+        made[name] = guesses[name] + max([chain(it, guesses, made) for it in guesses if name in CRATES[it]],
+                                         default=0)
     return made[name]
 
 
 def simulated(guesses: Any, spent: Any, lanes: Any) -> Any:
-    """The seconds that crates take in so many lanes, each after those that it stands on; `spent` are the seconds of those in work."""
+    """The seconds that crates take in so many lanes, each after those that it stands on; `spent` are the
+    seconds of those in work."""
     left, ends, now = dict(guesses), {}, 0.0
     for name, seconds in spent.items():
         ends[name] = max(left.pop(name) - seconds, 5)
@@ -251,7 +260,8 @@ def simulated(guesses: Any, spent: Any, lanes: Any) -> Any:
 
 
 def prove(libraries: Any, wanted: Any, lanes: Any, says: Any) -> Any:
-    """Proves libraries side by side, lowest first, and calls `says` with the state as it goes; the names of those that failed."""
+    """Proves libraries side by side, lowest first, and calls `says` with the state as it goes; the names of
+    those that failed."""
     runs, failed = Runs(), []
     left = [it for it in wanted if not libraries.is_built(it)]
     # First what the longest chain of others waits for.

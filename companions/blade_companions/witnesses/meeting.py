@@ -1,5 +1,5 @@
-"""A run in the order of the program that follows which bytes of its start each value comes of, and where an observer meets one: what one run shows,
-not what is proved. Licence: public domain (CC0)."""
+"""A run in the order of the program that follows which bytes of its start each value comes of, and where an
+observer meets one: what one run shows, not what is proved. Licence: public domain (CC0)."""
 from __future__ import annotations
 
 from typing import Dict, List, Sequence, Set, Tuple
@@ -15,10 +15,11 @@ Key = Tuple[int, int]  # a position and a variable, as an end has them
 
 
 class Meeting(Recorded):
-    """A mark of a value is a number: a bit for each byte that may change, and above these one for each cause through whose sites it came since it was
-    loaded. A cause's bit stands with the bits of bytes alone."""
+    """A mark of a value is a number: a bit for each byte that may change, and above these one for each cause
+    through whose sites it came since it was loaded. A cause's bit stands with the bits of bytes alone."""
 
-    def __init__(self, image: Image, function: int, secret: Secret, causes: Sequence[Sequence[Origin]] = ()) -> None:
+    def __init__(self, image: Image, function: int, secret: Secret,
+                 causes: Sequence[Sequence[Origin]] = ()) -> None:
         super().__init__(image, function, secret.start)
         size = len(secret.first)
         self.changed = (1 << size) - 1
@@ -27,7 +28,8 @@ class Meeting(Recorded):
         declared: Dict[int, int] = {}
         for bit, origins in zip(self.causes, causes):
             for origin in origins:
-                to, key = (declared, origin.variable) if origin.position is None else (self.through, origin.position)
+                to, key = (declared,
+                           origin.variable) if origin.position is None else (self.through, origin.position)
                 to[key] = to.get(key, 0) | bit
         self.demanded = demanded_variables(image)
         self.fixed: Dict[int, int] = {}  # marks of globals
@@ -39,8 +41,9 @@ class Meeting(Recorded):
         self.met: Dict[Key, int] = {}  # all that was met
         self.loads: Dict[int, int] = {}  # what each load of a secret memory loaded
         self.count = 0
-        self.ways = {"Set": self.follow_set, "Test": self.follow_test, "Load": self.follow_load, "Store": self.follow_store,
-                     "Arg": self.follow_arg, "Out": self.follow_out, "Call": self.follow_call, "Ret": self.follow_ret}
+        self.ways = {"Set": self.follow_set, "Test": self.follow_test, "Load": self.follow_load,
+                     "Store": self.follow_store, "Arg": self.follow_arg, "Out": self.follow_out,
+                     "Call": self.follow_call, "Ret": self.follow_ret}
         self.begin(image.functions[function].first, secret, declared)
 
     def begin(self, param: int, secret: Secret, declared: Dict[int, int]) -> None:
@@ -51,7 +54,8 @@ class Meeting(Recorded):
                 variable = param + one.offset
                 self.marks[-1][variable] = bits | declared.get(variable, 0)
             else:
-                self.bytes[one.memory].update((one.offset + place, 1 << at + place) for place in range(len(data)))
+                self.bytes[one.memory].update((one.offset + place, 1 << at + place)
+                                              for place in range(len(data)))
 
     def mark(self, operand: Operand) -> int:
         """That of an operand."""
@@ -96,7 +100,8 @@ class Meeting(Recorded):
         mark = 0
         for operand in command.operands:
             mark |= self.see(position, operand) if command.operator in DIVISIONS else self.mark(operand)
-        self.put(self.fixed if command.writes < self.bound else self.marks[-1], position, command.writes, mark)
+        self.put(self.fixed if command.writes < self.bound else self.marks[-1], position, command.writes,
+                 mark)
 
     def follow_test(self, position: int, command: Command) -> None:
         self.see(position, command.operands[0])
@@ -113,7 +118,8 @@ class Meeting(Recorded):
         mark &= self.changed
         if self.image.memories[command.memory].is_secret:
             self.loads[position] = self.loads.get(position, 0) | mark
-        self.put(self.fixed if command.writes < self.bound else self.marks[-1], position, command.writes, mark)
+        self.put(self.fixed if command.writes < self.bound else self.marks[-1], position, command.writes,
+                 mark)
 
     def follow_store(self, position: int, command: Command) -> None:
         mark = self.see(position, command.operands[0]) | self.mark(command.operands[1])
