@@ -9,7 +9,8 @@ import sys
 from typing import Any, List, Sequence
 
 import harness
-from blade_companions.formats.encoding import I32, I64, custom, func_type, leb, module, section, signed_leb, sized, string, vector
+from blade_companions.formats.encoding import (
+    I32, I64, custom, func_type, leb, module, section, signed_leb, sized, string, vector)
 
 BINARY = {I32: list(range(0x6A, 0x79)), I64: list(range(0x7C, 0x8B))}
 COMPARE = {I32: list(range(0x46, 0x50)), I64: list(range(0x51, 0x5B))}
