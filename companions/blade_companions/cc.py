@@ -12,6 +12,7 @@ WORDS are clang's and, behind -Wl, wasm-ld's. Besides:
     --export NAME            exports this function, and only such (all that the objects give to others, where the code doesn't say)
     --counts [EXPORT=]START  sets protects by the counts of a run from a start file; may be given again
     --start [EXPORT=]START   after a no, looks for two runs from a start file that show the leak, for ten seconds (blade-witness)
+    --public-callers=F,..    calls inside of the module may give public values for secret parameters of F
     --unlabelled             nothing is declared secret, and that is meant
     --no-fail                status 0 where the verdict is no, and what is made is kept all the same
     --limit N                at most so many warnings (20)
@@ -29,7 +30,7 @@ import os
 import shlex
 import sys
 from collections import Counter
-from typing import List, Optional, Sequence, Tuple
+from typing import Dict, List, Optional, Sequence, Tuple
 
 from .verdict import compare, diagnostics, sarif, text
 from .c.arguments import BUILD, DISAGREE, LABELS, NO, REFUSED, USAGE, YES, Asked, Stop, asked_by
@@ -39,15 +40,17 @@ from .ending import ended
 from .verdict.flow import find
 from .witnesses.hunting import after_no, summary
 from .formats.image import read_image
-from .formats.labels import entries_of
+from .formats.labels import Entry, entries_of
 from .c.lines import Lines, chosen
-from .formats.lowering import lower
+from .formats.lowering import Linked, lower
 from .formats.memories import pages_of, with_pages
 from .c.paths import shown
 from .formats.certificate import protects_of, read_certificate
 from .formats.reading import Bad, read_file
 from .c.refusals import refusal
-from .c.declarations import NOTHING, left_out, with_source
+from .c.callers import Given, gone, public_arguments
+from .c.compiling import keep_labelled
+from .c.declarations import NOTHING, Labelled, base, left_out, with_source
 from .c.sources import Sources
 from .c.tools import HERE, INCLUDE, Ran, Runner, found, program, written_to
 from .formats.module import FUNCTION, Module, module_of, read_module
@@ -72,6 +75,8 @@ class Driver:
         if self.file and not asked.name:
             self.module = os.path.splitext(os.path.basename(out))[0]
         self.aside = f"{self.folder}/refused"
+        self.where: Dict[Entry, str] = {}  # where labels were declared
+        self.called: Dict[Entry, str] = {}  # their parameters as C calls them
         self.explained_by: List[str] = []  # further words for blade-explain
         self.builder = Builder(asked, self.runner, f"{self.folder}/build")
 
@@ -94,25 +99,26 @@ class Driver:
             found(name)
         objects = self.builder.objects()
         linked = self.builder.link(objects)
-        wrong = left_out(linked, [one for one in objects + self.builder.archives() if os.path.exists(one)])
+        wrong = left_out(linked, self.builder.lines())
         if wrong:
             raise Stop(LABELS, *wrong)
-        modules = self.accessors(self.label(self.builder.split(self.module)))
+        modules = self.accessors(self.label(linked, self.builder.split(self.module)))
         report, verified = self.harden(modules)
+        self.refuse_public_arguments(modules)
         return self.judge(modules, report, verified)
 
-    def label(self, module: Module) -> str:
+    def label(self, linked: Module, module: Module) -> str:
         asked, to = self.asked, f"{self.aside}/{self.module}.wasm"
         # Of the vault the secrets stand in its own module; where nothing at all is declared, that is said with the verdict.
-        self.runner.show([os.path.join(HERE, "blade-label"), module.path, to, *asked.labels, "--unlabelled"])
+        self.runner.show([os.path.join(HERE, "blade-label"), module.path, to, *asked.labels, "--unlabelled", "--linked", linked.path])
         try:
-            made, told = with_source(module, asked.labels, False, True)
+            made, told = with_source(module, asked.labels, False, True, linked)
         except Bad as bad:
             raise Stop(LABELS, f"blade-cc: error: {bad} [blade-label]") from None
-        for line in told.warnings:
-            say(line, sys.stderr)
-        if told.errors:
-            raise Stop(LABELS, *told.errors)
+        errors = told.errors or lost(linked, told, asked.public_callers) or self.builder.strangers(told.others, asked.public_callers)
+        if errors:
+            raise Stop(LABELS, *errors)
+        self.where, self.called = dict(told.entries), told.called
         written_to(to, made)
         return to
 
@@ -142,6 +148,26 @@ class Driver:
         if verified.status or verified.out.splitlines()[:2] != ["certificate yes", "stable yes"]:
             raise Stop(DISAGREE, f"blade-cc: error: verify doesn't agree with harden: {verified.out.strip() or verified.status}")
         return done.out, verified.out
+
+    def refuse_public_arguments(self, modules: List[str]) -> None:
+        """What the module's own calls give for a secret parameter is secret in the caller already."""
+        image, functions = read_image(read_file(f"{self.aside}/{self.module}.img", "image")), lower([read_module(path) for path in modules])
+        allowed = {number for number, one in enumerate(functions) if is_meant(one.module, one.index, self.asked.public_callers)}
+        given = public_arguments(image, allowed)
+        if given:
+            lines = Lines(functions)
+            lines.ask([one.position for one in given])
+            raise Stop(LABELS, *dict.fromkeys(self.about(one, functions, lines) for one in given))
+
+    def about(self, given: Given, functions: Sequence[Linked], lines: Lines) -> str:
+        """An argument that is public, by its line, with what can be done."""
+        callee, line = functions[given.function], lines.line(given.position)
+        entry = "secret-param", (callee.index, given.parameter)
+        where, name = self.where.get(entry, ""), self.called.get(entry, str(given.parameter))
+        parameter = f"parameter {name} of {callee.name}" + (f" ({where})" if where else "")
+        caller = functions[given.caller].name if given.caller >= 0 else "a function"
+        return (f"{line.place + ':' + str(line.column) if line.number else 'blade-cc'}: error: {caller} passes a public value as the secret {parameter}: declare "
+                f"{caller}'s parameter, mark the value by BLADE_SECRET(x), or say --public-callers={base(callee.name)} if that is meant [blade-caller]")
 
     def counts(self, modules: List[str]) -> List[str]:
         """The words for harden, of runs from the start files."""
@@ -230,6 +256,22 @@ class Driver:
             say(line, sys.stderr)
 
 
+def is_meant(module: Module, index: int, names: Sequence[str]) -> bool:
+    """Whether words name a function."""
+    called = {module.function_name(index), base(module.function_name(index)), *(name for (sort, name), at in module.exports.items() if (sort, at) == (FUNCTION, index))}
+    return bool(called & set(names))
+
+
+def lost(linked: Module, told: Labelled, names: Sequence[str]) -> List[str]:
+    """Calls of labelled functions that the source has and the module doesn't."""
+    entries = [entry for entry, _ in told.entries]
+    allowed = [numbers[0] for _, numbers in entries if len(numbers) == 2 and is_meant(linked, numbers[0], names)]
+    where = {numbers[0]: place for (_, numbers), place in told.entries if len(numbers) == 2}
+    return [f"{where[target] or 'blade-cc'}: error: {linked.function_name(caller)} calls {linked.function_name(target)} by its source, and nothing of that is left in the "
+            f"module: declare {linked.function_name(caller)}'s parameter, or say --public-callers={base(linked.function_name(target))} if that is meant [blade-caller]"
+            for caller, target in gone(linked, entries, allowed)]
+
+
 def is_labelled(paths: Sequence[str]) -> bool:
     return any(entries_of(read_module(path)) for path in paths)
 
@@ -267,6 +309,8 @@ def status_of(words: Sequence[str], usage: str) -> int:
     if not words or words in (["--help"], ["-h"]):
         print(usage, file=sys.stderr if not words else sys.stdout)
         return USAGE if not words else YES
+    if words[0] == "--keep-labelled":
+        return keep_labelled(words[1:])
     driver, status = None, BUILD
     try:
         asked = asked_by(words)

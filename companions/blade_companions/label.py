@@ -38,6 +38,8 @@ def words_of(words):
     for flag in ("--replace", "--only", "--unlabelled", "--remove", "--list"):
         parser.add_argument(flag, action="store_true")
     parser.add_argument("--pages-of")
+    parser.add_argument("--linked")
+    parser.add_argument("--public-callers", default="")
     return parser.parse_intermixed_args(words)
 
 
@@ -53,7 +55,8 @@ def made_of(asked, module):
             return labelled(module, kinds, asked.replace), [], []
         if asked.only:
             return None, [f"blade-label: {NOTHING}"], []
-        made, found = with_source(module, kinds, asked.replace, asked.unlabelled)
+        linked = read_module(asked.linked) if asked.linked else None
+        made, found = with_source(module, kinds, asked.replace, asked.unlabelled, linked)
         return made, found.errors, found.warnings + [NOTE] * ("secret-param" in kinds)
     except Bad as bad:
         return None, [f"blade-label: {bad}"], []

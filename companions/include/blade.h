@@ -21,14 +21,16 @@
     static inline __attribute__((unused)) void BLADE_NAMED_(__COUNTER__)(void) {} \
     __asm__(".section .custom_section.blade.secrets,\"\",@\n.ascii \"" kind "\\t" name "\\t" which "\\t" __FILE__ ":" BLADE_SPELLED_(__LINE__) \
             "\\t" __BASE_FILE__ "\\n\"\n.text\n")
-/* Behind the definition the attribute would come too late: that is an error then. */
-#define BLADE_KEPT_(function) \
+/* The note tells blade-cc which function of that name is meant. Behind the definition the attributes would come too late: that is an error then. */
+#define BLADE_KEPT_(function, kind, name, which) \
     _Pragma("clang diagnostic push") _Pragma("clang diagnostic error \"-Wignored-attributes\"") \
-    extern __typeof__(function) function __attribute__((noinline)); \
+    extern __typeof__(function) function __attribute__((noinline, annotate(kind "\t" name "\t" which "\t" __FILE__ ":" BLADE_SPELLED_(__LINE__) \
+                                                                           "\t" __BASE_FILE__))); \
     _Pragma("clang diagnostic pop")
+#define BLADE_FUNCTION_(function, kind, name, which) BLADE_KEPT_(function, kind, name, which) BLADE_DECLARE_(kind, name, which)
 #define BLADE_SECRET_PARAM(function, parameter) \
-    BLADE_KEPT_(function) BLADE_DECLARE_("secret-param", BLADE_SPELLED_(function), BLADE_SPELLED_(parameter))
-#define BLADE_PUBLIC_RESULT(function) BLADE_KEPT_(function) BLADE_DECLARE_("public-result", BLADE_SPELLED_(function), "0")
+    BLADE_FUNCTION_(function, "secret-param", BLADE_SPELLED_(function), BLADE_SPELLED_(parameter))
+#define BLADE_PUBLIC_RESULT(function) BLADE_FUNCTION_(function, "public-result", BLADE_SPELLED_(function), "0")
 #define BLADE_SECRET_MEMORY BLADE_DECLARE_("secret-memory", "0", "-")
 #else
 #define BLADE_SECRET_PARAM(function, parameter) struct blade_labels_

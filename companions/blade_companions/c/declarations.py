@@ -9,9 +9,12 @@ from typing import Dict, FrozenSet, List, NamedTuple, Optional, Sequence, Set, T
 
 from .dwarf import Call, Subprogram, Walk, all_contents, subprograms, variables
 from ..formats.labels import KINDS, Entry, check, entries_in, is_labelled, number_of, section_of, without_labels
+from .opaque import BY_WORDS, Named, of_words
 from .paths import shown
-from ..formats.reading import Bad, read_file
-from ..formats.module import FUNCTION, Module
+from .units import Resolved
+from .units import Resolver as ByUnits
+from ..formats.reading import Bad
+from ..formats.module import FUNCTION, FuncType, Module
 
 NAME = "blade.secrets"
 INCLUDED = "<built-in>"  # what clang calls the unit in a file that is named by -include: that goes to all units
@@ -31,11 +34,13 @@ class Declared:
 
 
 class Labelled(NamedTuple):
-    """Entries, each with where it was declared; what is wrong with the others; and what is to be known of those of words."""
+    """Entries, each with where it was declared; what is wrong with the others; and what is to be known besides."""
 
     entries: List[Tuple[Entry, str]]
     errors: List[str]
     warnings: List[str]
+    others: Tuple[str, ...] = ()  # functions of units that blade-cc didn't compile
+    called: Dict[Entry, str] = {}  # parameters as C calls them
 
 
 def read_lines(lines: Sequence[str]) -> List[Declared]:
@@ -53,16 +58,16 @@ def declared(module: Module) -> List[Declared]:
     return read_lines(b"".join(all_contents(module, NAME)).decode("utf-8", "replace").splitlines())
 
 
-def in_files(paths: Sequence[str]) -> List[Declared]:
-    """The lines that stand in objects and archives, members that aren't linked included. In LLVM's bitcode they can't be seen."""
+def lines_in(data: bytes) -> List[str]:
+    """The lines that stand in an object."""
     pattern = rb"(?:%s)\t[^\t\n]+\t[^\t\n]+\t[^\t\n]+:\d+\t[^\t\n]+\n" % "|".join(KINDS).encode()
-    return read_lines([words.decode("utf-8", "replace").rstrip("\n") for path in paths for words in re.findall(pattern, read_file(path))])
+    return [line.decode("utf-8", "replace").rstrip("\n") for line in re.findall(pattern, data)]
 
 
-def left_out(module: Module, paths: Sequence[str]) -> List[str]:
-    """What stands in units that the linker left out and yet speaks of the module: it would be public in silence."""
+def left_out(module: Module, lines: Sequence[str]) -> List[str]:
+    """What stands in units that the linker left out and yet speaks of the module: it would be public in silence. The lines are those of all units."""
     kept, told = set(declared(module)), []
-    for one in in_files(paths):
+    for one in read_lines(lines):
         if one in kept:
             continue
         if one.kind == "secret-memory":
@@ -196,9 +201,11 @@ def copies(told: Sequence[Subprogram], function: int) -> List[Call]:
     return list(dict.fromkeys(call for it in told if it.function == function for call in it.inlined))
 
 
-def of_source(module: Module) -> Labelled:
-    """What the source declares."""
-    lines, found, errors = declared(module), [], []
+def of_source(module: Module, answered: Set[Named]) -> Labelled:
+    """What the source declares, but for what is answered already."""
+    lines = [one for one in declared(module) if named_by(one) not in answered]
+    found: List[Tuple[Entry, str]] = []
+    errors: List[str] = []
     resolver = Resolver(module) if lines else None
     for one in lines:
         try:
@@ -208,7 +215,11 @@ def of_source(module: Module) -> Labelled:
                 found.append((entry, resolver.place(one)))
         except Bad as bad:
             errors.append(f"{resolver.place(one)}: error: {bad} [blade-label]")
-    return Labelled(found, errors, [])
+    return Labelled(found, errors, [], tuple(one.name for one in lines if KINDS[one.kind].names[0] == "function"))
+
+
+def named_by(one: Declared) -> Named:
+    return Named(one.kind, one.name, one.which, one.where)
 
 
 def numbered(module: Module, words: Sequence[str]) -> List[str]:
@@ -222,26 +233,58 @@ def numbered(module: Module, words: Sequence[str]) -> List[str]:
     return made
 
 
-def labels_of(module: Module, words: Sequence[str] = ()) -> Labelled:
-    """What the source declares, and what words declare besides."""
-    found, errors, warnings = of_source(module)
-    by_source = [entry for entry, _ in found]
-    by_words = [entry for entry in entries_in(module, numbered(module, words)) if entry not in by_source]
-    check(module, by_source + by_words)
+def without(words: Sequence[str], answered: Set[Named]) -> List[str]:
+    """The words but for those of functions that are answered already."""
+    return [word for label in split(words) if len(label) != 3 or Named(*label, BY_WORDS) not in answered for word in label]
+
+
+def joined(words: Sequence[str], more: Sequence[str]) -> List[str]:
+    """Words, and those of further labels that they don't have."""
+    labels = [tuple(one) for one in split(words)]
+    return [word for label in dict.fromkeys(labels + [tuple(one) for one in split(more) if tuple(one) not in labels]) for word in label]
+
+
+def split(words: Sequence[str]) -> List[List[str]]:
+    """The words of each label."""
+    found, at = [], 0
+    while at < len(words):
+        size = 1 + len(KINDS[words[at]].names) if words[at] in KINDS else 1
+        found.append(list(words[at : at + size]))
+        at += size
+    return found
+
+
+def types_of(module: Module) -> List[FuncType]:
+    return [module.type_of(function) for function in range(len(module.functions))]
+
+
+def labels_of(module: Module, words: Sequence[str] = (), linked: Optional[Module] = None) -> Labelled:
+    """What the source declares, and what words declare besides. The units of the linked module know more than the module that is made of it."""
+    known = ByUnits(linked, words).found if linked else Resolved()
+    if linked and types_of(linked) != types_of(module):
+        raise Bad(f"{module.name}: wasm-opt has changed which functions there are")
+    source = of_source(module, known.answered)
+    errors, others = source.errors, source.others
+    rest = joined(without(words, known.answered), known.words)
+    by_source = known.entries + [one for one in source.entries if one[0] not in [entry for entry, _ in known.entries]]
+    declared_before = [entry for entry, _ in by_source]
+    by_words = [entry for entry in entries_in(module, numbered(module, rest)) if entry not in declared_before]
+    check(module, declared_before + by_words)
     params = [numbers[0] for kind, numbers in by_words if kind == "secret-param"]
     told = subprograms(module) if params else []
     for function in dict.fromkeys(params):
         name = module.function_name(function)
-        warnings += [f"{call.path}:{call.line}:{call.column}: warning: {name} is inlined here, in {call.caller}, and what it is given isn't declared secret, {KEEP} "
-                     "[blade-inlined]" for call in copies(told, function)]
-    return Labelled(found + [(entry, "") for entry in by_words], errors, warnings)
+        errors += [f"{call.path}:{call.line}:{call.column}: error: {name} is inlined here, in {call.caller}, and what it is given isn't declared secret, {KEEP} "
+                   "[blade-inlined]" for call in copies(told, function)]
+    others += tuple(named.name for named in of_words(rest))
+    return Labelled(by_source + [(entry, "") for entry in by_words], known.errors + errors, [], others, known.called)
 
 
-def with_source(module: Module, words: Sequence[str], replace: bool = False, unlabelled: bool = False) -> Tuple[bytes, Labelled]:
+def with_source(module: Module, words: Sequence[str], replace: bool = False, unlabelled: bool = False, linked: Optional[Module] = None) -> Tuple[bytes, Labelled]:
     """The module with the labels of its source and of words, which stand where nothing is wrong."""
     if is_labelled(module) and not replace:
         raise Bad("the module has a section blade.labels already: --replace, or --remove it")
-    found = labels_of(module, words)
+    found = labels_of(module, words, linked)
     if not found.entries and not found.errors and not unlabelled:
         raise Bad(NOTHING)
     return without_labels(module) + section_of([entry for entry, _ in found.entries]), found

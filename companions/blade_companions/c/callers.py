@@ -1,0 +1,142 @@
+"""Whether the calls of labelled functions keep to their labels, as the linked module and its image have them: what is given for a secret parameter is secret
+in the caller already, and no call of the source is gone. Licence: public domain (CC0)."""
+from __future__ import annotations
+
+from collections import defaultdict
+from typing import Dict, Iterable, List, NamedTuple, Sequence, Set, Tuple
+
+from ..formats.image import SELECT, Command, Image
+from ..formats.labels import Entry
+from ..formats.lowering import Linked
+from ..formats.module import FUNCTION, Module
+from ..verdict.flow import declared_origins, find
+from .refusals import Body
+from .units import starts_of, units_of
+
+MOVE, CALL, INDIRECT = 0x00, 0x10, 0x11
+
+
+class Given(NamedTuple):
+    """What a call gives for a secret parameter: where, the caller, the function and the parameter."""
+
+    position: int
+    caller: int
+    function: int
+    parameter: int
+
+
+class Secrets:
+    """The variables of an image that hold secrets whichever way their value came: not those that hold one by one way and a public value by another."""
+
+    def __init__(self, image: Image) -> None:
+        self.image = image
+        self.origins = {origin.variable for origin in declared_origins(image)}
+        self.writers: Dict[int, List[Command]] = defaultdict(list)
+        self.readers: Dict[int, Set[int]] = defaultdict(set)
+        for command in image.commands:
+            if command.writes >= 0:
+                self.writers[command.writes].append(command)
+                for variable in command.reads:
+                    self.readers[variable].add(command.writes)
+        exported = {variable for function in image.entries.values() for variable in self.params(function)}
+        self.secret = set(find(image).secret.came)
+        public = {x for x in exported | set(range(len(image.secret_globals) + len(image.memories))) if x not in self.origins}
+        self.remove(public & self.secret)
+
+    def params(self, function: int) -> range:
+        one = self.image.functions[function]
+        return range(one.first, one.first + one.params)
+
+    def remove(self, public: Set[int]) -> None:
+        """Takes those out that a public value reaches, until none is left."""
+        work = list(public) + [x for x in self.secret if x not in self.origins and not self.holds(x)]
+        while work:
+            variable = work.pop()
+            if variable in self.secret:
+                self.secret.discard(variable)
+                work += [x for x in self.readers[variable] if x in self.secret and x not in self.origins and not self.holds(x)]
+
+    def holds(self, variable: int) -> bool:
+        return all(self.is_secret(command) for command in self.writers[variable])
+
+    def is_secret(self, command: Command) -> bool:
+        """Whether what a command writes is secret, or a constant that stands beside secrets."""
+        if command.kind == "Load":
+            return self.image.memories[command.memory].is_secret
+        operands = command.operands
+        if command.kind == "Set" and command.operator == SELECT:
+            return operands[-1].is_variable and operands[-1].value in self.secret or all(self.fits(one) for one in operands[:2])
+        if command.kind in ("Arg", "Out") or command.operator == MOVE:
+            return self.fits(operands[0])
+        return any(x in self.secret for x in command.reads)
+
+    def fits(self, operand) -> bool:
+        return not operand.is_variable or operand.value in self.secret
+
+
+def public_arguments(image: Image, allowed: Iterable[int]) -> List[Given]:
+    """The calls that give a public value for a parameter that is declared secret, but for those of some functions."""
+    goals: Dict[int, Tuple[int, int]] = {}
+    for number, function in enumerate(image.functions):
+        if number not in allowed:
+            goals.update({function.first + at: (number, at) for at, is_secret in enumerate(function.secret_params) if is_secret})
+    given = [(position, command) for position, command in enumerate(image.commands) if command.kind == "Arg" and command.writes in goals]
+    if not given:
+        return []
+    secret = Secrets(image).secret
+    return [Given(position, image.function_at(position), *goals[command.writes]) for position, command in given
+            if not command.operands[0].is_variable or command.operands[0].value not in secret]
+
+
+class Calls(Body):
+    """The functions that a function's code calls, and whether it calls by the table."""
+
+    def __init__(self, module: Module, function: int, start: int, end: int) -> None:
+        self.called: Set[int] = set()
+        self.is_indirect = False
+        super().__init__(module, function, start, end)
+
+    def immediates(self, code: int) -> None:
+        if code == CALL:
+            self.called.add(self.reader.number())
+        else:
+            self.is_indirect |= code == INDIRECT
+            super().immediates(code)
+
+
+def called_in(module: Module) -> Dict[int, Set[int]]:
+    """Of each function those that its code may call."""
+    imported, listed = len(module.imported(FUNCTION)), {one for element in module.elements for one in element.functions}
+    bodies = [Calls(module, imported + at, start, end) for at, (start, end) in enumerate(module.bodies)]
+    return {one.function: one.called | (listed if one.is_indirect else set()) for one in bodies}
+
+
+def reached_from(function: int, called: Dict[int, Set[int]]) -> Set[int]:
+    found: Set[int] = set()
+    work = [function]
+    while work:
+        new = called.get(work.pop(), set()) - found
+        found |= new
+        work += new
+    return found
+
+
+def gone(linked: Module, entries: Sequence[Entry], allowed: Iterable[int]) -> List[Tuple[int, int]]:
+    """The functions whose source leads to a labelled function, and whose code in the module doesn't, each with that function."""
+    wanted = {numbers[0] for kind, numbers in entries if len(numbers) == 2} - set(allowed)
+    units, starts, called = units_of(linked), starts_of(linked), called_in(linked)
+    found = []
+    for unit in units:
+        for symbol, place in unit.calls:
+            targets = {starts.get(label.place, -1) for one in units for label in one.labels
+                       if label.symbol == symbol and (one is unit or label.sort != "local")} & wanted
+            caller = starts.get(place, -1)
+            if caller >= 0 and targets and caller not in targets and not targets & reached_from(caller, called):
+                found.append((caller, min(targets)))
+    return list(dict.fromkeys(found))
+
+
+def numbers_in(image_functions: Sequence[Linked], module: Module, indexes: Iterable[int]) -> Set[int]:
+    """The numbers in the image of a module's functions."""
+    wanted = set(indexes)
+    return {number for number, one in enumerate(image_functions) if one.module.path == module.path and one.index in wanted}
