@@ -1,7 +1,9 @@
 """Tests of blade-label: sections written by hand, words and modules that are refused. Licence: public domain (CC0)."""
 from __future__ import annotations
 
-from blade_companions.formats.labels import entries_of, labelled, section_of, without_labels
+import hashlib
+
+from blade_companions.formats.labels import entries_of, is_changed, labelled, section_of, without_labels
 from blade_companions.formats.reading import Bad
 from blade_companions.formats.module import MAGIC, module_of
 
@@ -24,6 +26,11 @@ CASES = [
     ("public-global 0 secret-memory 0", f"00 13 {HEAD} 02 02 04 00 02 00"),
     ("", f"00 0F {HEAD} 01 00"),
 ]
+# The section that says for which code labels were made: the sections 1, 2, 3, 6 and 10 in order, each with its number and size in front.
+SUMMED = b"".join(bytes.fromhex(PARTS[at]) for at in (0, 1, 2, 4, 6))
+SUM = bytes.fromhex("00 2B 09 62 6C 61 64 65 2E 73 75 6D 01") + hashlib.sha256(SUMMED).digest()
+# Bytes of the imported name, of a global's first value and of the code.
+CHANGED = [MODULE.index(bytes.fromhex("61 01 62")), MODULE.index(bytes.fromhex("41 00 0B")) + 1, MODULE.index(bytes.fromhex("20 00 0B")) + 1]
 # Words that are refused.
 REFUSED = [
     "secret-param add", "secret-memory -1", "secret-memory 1", "secret-local 0", "0", "secret-memory 0 0", "secret-param add 2", "secret-param 2 0",
@@ -44,7 +51,8 @@ def is_refused(data: bytes, words: str) -> bool:
 def selftest() -> str:
     for words, spelled in CASES:
         given = labelled(module_of(MODULE, "m"), words.split())
-        assert given == MODULE + bytes.fromhex(spelled), (words, given[len(MODULE) :].hex(" "))
+        assert given == MODULE + bytes.fromhex(spelled) + (SUM if words else b""), (words, given[len(MODULE) :].hex(" "))
+        assert not is_changed(module_of(given, "m")), words
         assert without_labels(module_of(given, "m")) == MODULE, words
     for words in REFUSED:
         assert is_refused(MODULE, words), words
@@ -55,4 +63,9 @@ def selftest() -> str:
     # A section of that name's length with another name is none.
     other = MODULE + bytes.fromhex("00 0D 0C 62 6C 61 64 65 2E 73 74 69 63 6B 73")
     assert labelled(module_of(other, "m"), []) == other + section_of([])
+    for place in CHANGED:
+        changed = bytearray(labelled(module_of(MODULE, "m"), ["secret-memory", "0"]))
+        changed[place] ^= 1
+        assert is_changed(module_of(bytes(changed), "m")), place
+    assert not is_changed(module_of(MODULE + section_of([]), "m"))
     return f"blade-label: {len(CASES)} sections, {len(REFUSED)} refused words, {len(UNFIT)} refused modules, 1 replaced"

@@ -8,7 +8,7 @@ from dataclasses import dataclass, field
 from typing import Dict, FrozenSet, List, NamedTuple, Optional, Sequence, Set, Tuple
 
 from .dwarf import Call, Subprogram, Walk, all_contents, subprograms, variables
-from ..formats.labels import KINDS, Entry, check, entries_in, is_labelled, number_of, section_of, without_labels
+from ..formats.labels import KINDS, Entry, check, entries_in, is_labelled, number_of, with_labels
 from .opaque import BY_WORDS, Named, of_words
 from .paths import shown
 from .units import Resolved
@@ -287,4 +287,4 @@ def with_source(module: Module, words: Sequence[str], replace: bool = False, unl
     found = labels_of(module, words, linked)
     if not found.entries and not found.errors and not unlabelled:
         raise Bad(NOTHING)
-    return without_labels(module) + section_of([entry for entry, _ in found.entries]), found
+    return with_labels(module, [entry for entry, _ in found.entries]), found
