@@ -1,83 +1,16 @@
 #!/usr/bin/env python3
 """Prints the images of the modules that tests lower, and of four that they harden, by the commands that the table of lowering
-gives them, written here by hand. `oracles/traces.py` takes the spelling of images from here.
-
-Commands are listed one a line from position 7 on, with their positions, as `11 load v5 v3` or `16 out 0 v7`. A word `vN` is a
-variable and a number is a constant, a position or an index; the last number of a load is its offset, if any. What stands in a loop ends
-with the word `inside`, and what is protected with `protected`.
+gives them, written here by hand as spell.py says, which spells them.
 
 usage: python3 oracles/images.py"""
 
-OPERATORS = {"move": 0x00, "outside": 0x01, "eqz": 0x45, "eq": 0x46, "gt_u": 0x4B, "add": 0x6A, "sub": 0x6B, "div_u": 0x6E}
-LOADS = {"load": 0x28, "load64": 0x29, "load8_s": 0x2C, "load8_u": 0x2D, "load64_8_s": 0x30, "load64_8_u": 0x31}
-STORES = {"store": 0x36, "store64": 0x37, "store8": 0x3A, "store64_8": 0x3C}
-
-# What a mark's byte has more for each word.
-MARKS = {"inside": 1, "protected": 8}
-
-
-def leb(number):
-    out = []
-    while True:
-        out.append(number % 128 + (128 if number >= 128 else 0))
-        number //= 128
-        if number == 0:
-            return out
-
-
-def operand(word):
-    return [0] + leb(int(word[1:])) if word[0] == "v" else [1] + leb(int(word))
-
-
-def variable(word):
-    return leb(int(word[1:]))
-
-
-def command(name, words, mark):
-    if name == "set":
-        to, operator, *operands = words
-        return [0, mark, OPERATORS[operator]] + variable(to) + [byte for word in operands for byte in operand(word)]
-    if name in LOADS:
-        return [1, mark, LOADS[name], 0] + variable(words[0]) + leb(int(words[2]) if words[2:] else 0) + operand(words[1])
-    if name in STORES:
-        return [2, STORES[name], 0, 0] + operand(words[0]) + operand(words[1])
-    if name == "test":
-        return [3] + operand(words[0]) + leb(int(words[1])) + leb(int(words[2]))
-    if name == "jump":
-        return [4] + leb(int(words[0]))
-    if name == "call":
-        return [6] + leb(int(words[0]))
-    if name == "out":
-        return [7, mark] + leb(int(words[0])) + operand(words[1])
-    assert name == "ret"
-    return [8]
-
-
-def commands(text):
-    out, position = [], 7
-    for line in text.strip().splitlines():
-        at, *words = line.split()
-        mark = 0
-        while words[-1] in MARKS:
-            mark += MARKS[words.pop()]
-        assert int(at) == position, line
-        out += command(words[0], words[1:], mark)
-        position += 1
-    return out, position
-
-
-def spelled(head, text, count):
-    """The image of version 1 with that head and those commands, which with the traps are so many."""
-    body, behind = commands(text)
-    assert behind == count, behind
-    return bytes([0x42, 0x4C, 0x49, 0x4D, 1] + head + body)
-
+import spell
 
 IMAGES = {}
 
 
-def image(name, head, text, count):
-    IMAGES[name] = spelled(head, text, count)
+def image(name, head, text):
+    IMAGES[name] = spell.image(head, text)
 
 
 F = [1, 3] + list(b"m/f")
@@ -94,7 +27,7 @@ image("LOWERED_LOADS_IMAGE", [0, 1, 1, 0x80, 2, 0, 0, 1, 1, 0x7F, 0, 1, 0x7F, 7,
 14 load v7 v5
 15 out 0 v7
 16 ret
-""", 17)
+""")
 
 # The same, of which the first load is protected.
 image("LOADS_IMAGE", [0, 1, 1, 0x80, 2, 0, 0, 1, 1, 0x7F, 0, 1, 0x7F, 7, 10] + F + [0], """
@@ -108,7 +41,7 @@ image("LOADS_IMAGE", [0, 1, 1, 0x80, 2, 0, 0, 1, 1, 0x7F, 0, 1, 0x7F, 7, 10] + F
 14 load v7 v5
 15 out 0 v7
 16 ret
-""", 17)
+""")
 
 # v0 is the parameter, v1 the result; the export is inc/inc.
 image("ADD_ONE_IMAGE", [0, 0, 1, 1, 0x7F, 0, 1, 0x7F, 5, 6, 1, 7] + list(b"inc/inc") + [0], """
@@ -118,11 +51,11 @@ image("ADD_ONE_IMAGE", [0, 0, 1, 1, 0x7F, 0, 1, 0x7F, 5, 6, 1, 7] + list(b"inc/i
 10 set v4 add v2 v3
 11 out 0 v4
 12 ret
-""", 13)
+""")
 
 # v0 is the global, v1 the memory's size, v2 and v3 the parameters, v4 the result, v5 the other local.
 ROW = [1, 0, 0, 0, 2, 0, 0, 0, 3, 0, 0, 0, 0, 0, 0, 0]
-image("SUM_IMAGE", [1, 0x7F, 0] + leb(66560) + [1, 2, 0x80, 2, 0, 1, 64] + ROW + [1, 2, 0x7F, 0, 0x7F, 0, 1, 0x7F, 18, 30, 1, 5] + list(b"m/sum") + [0], """
+image("SUM_IMAGE", [1, 0x7F, 0] + list(spell.leb(66560)) + [1, 2, 0x80, 2, 0, 1, 64] + ROW + [1, 2, 0x7F, 0, 0x7F, 0, 1, 0x7F, 18, 30, 1, 5] + list(b"m/sum") + [0], """
 7 set v5 move 0
 8 jump 9
 9 jump 10
@@ -153,7 +86,7 @@ image("SUM_IMAGE", [1, 0x7F, 0] + leb(66560) + [1, 2, 0x80, 2, 0, 1, 64] + ROW +
 34 set v19 move v5
 35 out 0 v19
 36 ret
-""", 37)
+""")
 
 # v0 is the memory's size, v1 the parameter, v2 the result.
 image("GROW_AND_STORE_IMAGE", [0, 1, 1, 2, 0, 0, 1, 1, 0x7F, 0, 1, 0x7F, 9, 16] + F + [0], """
@@ -173,7 +106,7 @@ image("GROW_AND_STORE_IMAGE", [0, 1, 1, 2, 0, 0, 1, 1, 0x7F, 0, 1, 0x7F, 9, 16] 
 20 store v7 v8
 21 out 0 v6
 22 ret
-""", 23)
+""")
 
 # v0 is the memory's size, v1 the parameter, v2 the result. No module is lowered to this one: its parameter isn't moved.
 image("GROWTH_IMAGE", [0, 1, 1, 2, 0, 0, 1, 1, 0x7F, 0, 1, 0x7F, 5, 9] + F + [0], """
@@ -186,7 +119,7 @@ image("GROWTH_IMAGE", [0, 1, 1, 2, 0, 0, 1, 1, 0x7F, 0, 1, 0x7F, 5, 9] + F + [0]
 13 set v5 move 4294967295
 14 out 0 v5
 15 ret
-""", 16)
+""")
 
 # Function 1 has the result v0; function 2 the parameter v2 and the result v3.
 image("INDIRECT_IMAGE", [0, 0, 3, 0, 0, 0, 2, 0, 1, 0x7F, 2, 4, 1, 0x7F, 0, 1, 0x7F, 7, 13] + F + [2], """
@@ -209,7 +142,7 @@ image("INDIRECT_IMAGE", [0, 0, 3, 0, 0, 0, 2, 0, 1, 0x7F, 2, 4, 1, 0x7F, 0, 1, 0
 23 jump 24
 24 out 0 v8
 25 ret
-""", 26)
+""")
 
 # v0 is the parameter, v1 and v2 the results; v3 and v4 are the outer block's, v6 and v7 the inner one's.
 image("NESTED_IMAGE", [0, 0, 1, 1, 0x7F, 0, 2, 0x7F, 0x7F, 17, 30] + F + [0], """
@@ -243,7 +176,7 @@ image("NESTED_IMAGE", [0, 0, 1, 1, 0x7F, 0, 2, 0x7F, 0x7F, 17, 30] + F + [0], ""
 34 out 0 v3
 35 out 1 v16
 36 ret
-""", 37)
+""")
 
 # v0 to v2 are the parameters, v3 and v4 the results; v7 and v8 are the loop's parameters, v9 and v10 its results.
 image("SWAPPING_IMAGE", [0, 0, 1, 3, 0x7F, 0, 0x7F, 0, 0x7F, 0, 2, 0x7F, 0x7F, 16, 24] + F + [0], """
@@ -271,7 +204,7 @@ image("SWAPPING_IMAGE", [0, 0, 1, 3, 0x7F, 0, 0x7F, 0, 0x7F, 0, 2, 0x7F, 0x7F, 1
 28 out 0 v9
 29 out 1 v10
 30 ret
-""", 31)
+""")
 
 # v0 is the parameter, v1 the result; v3 is the loop's parameter, v4 its result.
 image("LOOP_IMAGE", [0, 0, 1, 1, 0x7F, 0, 1, 0x7F, 8, 15] + F + [0], """
@@ -290,7 +223,7 @@ image("LOOP_IMAGE", [0, 0, 1, 1, 0x7F, 0, 1, 0x7F, 8, 15] + F + [0], """
 19 jump 20
 20 out 0 v4
 21 ret
-""", 22)
+""")
 
 # What is hardened: memories of one page without a maximum, v0 being the memory's size. First with the parameters v1 and v2 and the
 # result v3.
@@ -311,7 +244,7 @@ image("SUM_OF_LOADS_IMAGE", PAGE + [1, 2, 0x7F, 0, 0x7F, 0, 1, 0x7F, 12, 15] + F
 19 load v12 v10
 20 out 0 v12
 21 ret
-""", 22)
+""")
 
 # v1 is the parameter, v2 the result, v3 the other local.
 image("SHARED_ADDRESS_IMAGE", PAGE + [1, 1, 0x7F, 0, 1, 0x7F, 12, 17] + F + [0], """
@@ -332,7 +265,7 @@ image("SHARED_ADDRESS_IMAGE", PAGE + [1, 1, 0x7F, 0, 1, 0x7F, 12, 17] + F + [0],
 21 set v12 add v8 v11
 22 out 0 v12
 23 ret
-""", 24)
+""")
 
 # v1 is the parameter, v2 the other local.
 image("LOOP_READS_IMAGE", PAGE + [1, 1, 0x7F, 0, 0, 8, 15] + F + [0], """
@@ -351,7 +284,7 @@ image("LOOP_READS_IMAGE", PAGE + [1, 1, 0x7F, 0, 0, 8, 15] + F + [0], """
 19 jump 20
 20 jump 21
 21 ret
-""", 22)
+""")
 
 # v1 is the parameter, v2 the result, v3 the other local.
 image("LOOP_WRITES_IMAGE", PAGE + [1, 1, 0x7F, 0, 1, 0x7F, 9, 15] + F + [0], """
@@ -370,10 +303,9 @@ image("LOOP_WRITES_IMAGE", PAGE + [1, 1, 0x7F, 0, 1, 0x7F, 9, 15] + F + [0], """
 19 load v9 v7
 20 out 0 v9
 21 ret
-""", 22)
+""")
 
 if __name__ == "__main__":
     for name, whole in IMAGES.items():
         print(name, len(whole))
-        for start in range(0, len(whole), 16):
-            print("    " + ", ".join(f"0x{byte:02X}" for byte in whole[start : start + 16]) + ",")
+        print(*(f"    {row}" for row in spell.rows(whole)), sep="\n")

@@ -6,29 +6,12 @@ else of Blade. Positions that the tests expect were worked by hand.
 usage: python3 oracles/interfaces.py"""
 
 
-def u(n):
-    out = []
-    while True:
-        out.append(n & 127 | (128 if n > 127 else 0))
-        n >>= 7
-        if not n:
-            return bytes(out)
-
-
-def vec(items):
-    return u(len(items)) + b''.join(items)
-
-
-def name(text):
-    return u(len(text)) + text.encode()
-
-
-def section(number, body):
-    return bytes([number]) + u(len(body)) + body if body else b''
+import spell
+from spell import leb, name, sized, vector
 
 
 def kind(params, results):
-    return b'\x60' + u(len(params)) + bytes(params) + u(len(results)) + bytes(results)
+    return b'\x60' + sized(bytes(params)) + sized(bytes(results))
 
 
 I32, I64 = 0x7F, 0x7E
@@ -36,26 +19,17 @@ I32, I64 = 0x7F, 0x7E
 
 def module(types, imports=(), functions=(), memory=None, globals_=(), exports=(), codes=(), data=(), customs=()):
     """imports: (module, name, type); exports: (name, function); codes: (locals, body); data: (offset, bytes); customs: (name, bytes)"""
-    out = b'\0asm\1\0\0\0'
-    out += section(1, vec([kind(*t) for t in types]))
-    if imports:
-        out += section(2, vec([name(m) + name(f) + b'\0' + u(t) for m, f, t in imports]))
-    if functions:
-        out += section(3, vec([u(t) for t in functions]))
-    if memory is not None:
-        out += section(5, vec([b'\0' + u(memory)]))
-    if globals_:
-        out += section(6, vec([bytes([I32, 1, 0x41]) + bytes([first]) + b'\x0B' for first in globals_]))
-    if exports:
-        out += section(7, vec([name(n) + b'\0' + u(f) for n, f in exports]))
-    if codes:
-        bodies = [vec([u(count) + bytes([t]) for count, t in local]) + body + b'\x0B' for local, body in codes]
-        out += section(10, vec([u(len(b)) + b for b in bodies]))
-    if data:
-        out += section(11, vec([b'\0\x41' + bytes([at]) + b'\x0B' + u(len(d)) + d for at, d in data]))
-    for label, body in customs:
-        out += section(0, name(label) + body)
-    return out
+    bodies = [vector([leb(count) + bytes([t]) for count, t in local]) + body + b'\x0B' for local, body in codes]
+    return spell.module([
+        (1, vector([kind(*t) for t in types])),
+        (2, imports and vector([name(m) + name(f) + b'\0' + leb(t) for m, f, t in imports])),
+        (3, functions and vector([leb(t) for t in functions])),
+        (5, memory and vector([b'\0' + leb(memory)])),
+        (6, globals_ and vector([bytes([I32, 1, 0x41, first, 0x0B]) for first in globals_])),
+        (7, exports and vector([name(n) + b'\0' + leb(f) for n, f in exports])),
+        (10, codes and vector([sized(body) for body in bodies])),
+        (11, data and vector([bytes([0, 0x41, at, 0x0B]) + sized(d) for at, d in data])),
+        *((0, name(label) + body) for label, body in customs)])
 
 
 def get(x):
@@ -130,16 +104,12 @@ def library():
 
 def named(*exports):
     """how many bytes the image of functions has that return at once, each exported under a name of so many bytes"""
-    functions = vec([b'\0\0\0\1' for _ in exports])
-    return 5 + len(b'\0\0' + functions + u(len(exports))) + sum(len(u(count)) + count + len(u(f)) for f, count in enumerate(exports)) + len(exports)
+    functions = vector([b'\0\0\0\1' for _ in exports])
+    return 5 + len(b'\0\0' + functions + leb(len(exports))) + sum(len(leb(count)) + count + len(leb(f)) for f, count in enumerate(exports)) + len(exports)
 
 
 def constant(title, text):
-    rows = [', '.join(f'0x{b:02X}' for b in text[at:at + 16]) for at in range(0, len(text), 16)]
-    print(f'const {title}: [u8; {len(text)}] = [')
-    for row in rows:
-        print(f'    {row},')
-    print('];\n')
+    print(f'const {title}: [u8; {len(text)}] = [', *(f'    {row}' for row in spell.rows(text)), '];\n', sep='\n')
 
 
 if __name__ == '__main__':

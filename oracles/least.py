@@ -5,26 +5,20 @@ sinks and transient variables, and the grammar of images, and shares no code wit
 import itertools
 import random
 
-MOVE, OUTSIDE, EQZ, ADD, DIV_U = 0x00, 0x01, 0x45, 0x6A, 0x6E
-ARITY = {MOVE: 1, EQZ: 1, OUTSIDE: 3, ADD: 2, DIV_U: 2}
-I32, I32_LOAD = 0x7F, 0x28
+import spell
+from spell import leb, vector
 
-
-def leb(number):
-    out = bytearray()
-    while number >= 128:
-        out.append(number % 128 + 128)
-        number //= 128
-    out.append(number)
-    return bytes(out)
+MOVE, OUTSIDE, EQZ, ADD, DIV_U = 'move', 'outside', 'eqz', 'add', 'div_u'
+I32 = 0x7F
 
 
 class Const(int):
     pass
 
 
-def operand(x):
-    return b'\x01' + leb(int(x)) if isinstance(x, Const) else b'\x00' + leb(x)
+def word(x):
+    """A word of a command: a constant or a variable."""
+    return str(int(x)) if isinstance(x, Const) else f'v{x}'
 
 
 class Function:
@@ -54,49 +48,24 @@ class Program:
             first += function.vars
 
     def image(self):
-        out = bytearray(b'BLIM\x02' if self.weights else b'BLIM\x01')
-        out += b'\x00' + b'\x01' + leb(1) + leb(256) + b'\x00' + b'\x00'
-        out += leb(len(self.functions))
-        for function in self.functions:
-            out += leb(function.params) + bytes([I32, 0]) * function.params
-            out += leb(function.results) + bytes([I32]) * function.results
-            out += leb(function.vars) + leb(len(function.commands))
-        out += b'\x01' + leb(3) + b'm/f' + leb(len(self.functions) - 1)
-        if self.weights:
-            out += b'\x00' + leb(len(self.weights))
-            former = -1
-            for at in sorted(self.weights):
-                out += leb(at - former - 1) + leb(self.weights[at])
-                former = at
-        for at in sorted(self.commands):
-            out += self.spelled(self.commands[at][1])
-        return bytes(out)
+        functions = [vector([bytes([I32, 0])] * it.params) + vector([bytes([I32])] * it.results) + leb(it.vars) + leb(len(it.commands))
+                     for it in self.functions]
+        head = b'\0\1' + leb(1) + leb(256) + b'\0\0' + vector(functions) + vector([spell.name('m/f') + leb(len(functions) - 1)])
+        listed, former = [], -1
+        for at in sorted(self.weights):
+            listed.append(leb(at - former - 1) + leb(self.weights[at]))
+            former = at
+        commands = b''.join(self.spelled(self.commands[at][1]) for at in sorted(self.commands))
+        return b'BLIM' + (b'\2' + head + b'\0' + vector(listed) if listed else b'\1' + head) + commands
 
-    def spelled(self, command):
-        word, depth, *rest = command
-        mark = bytes([depth])
-        if word == 'set':
-            op, to, *operands = rest
-            assert len(operands) == ARITY[op]
-            return b'\x00' + mark + bytes([op]) + leb(to) + b''.join(operand(x) for x in operands)
-        if word == 'load':
-            _, to, address, offset = rest
-            return b'\x01' + mark + bytes([I32_LOAD]) + leb(0) + leb(to) + leb(offset) + operand(address)
-        if word == 'test':
-            cond, yes, no = rest
-            return b'\x03' + operand(cond) + leb(yes) + leb(no)
-        if word == 'jump':
-            return b'\x04' + leb(rest[0])
-        if word == 'arg':
-            function, index, value = rest
-            return b'\x05' + mark + leb(function) + leb(index) + operand(value)
-        if word == 'call':
-            return b'\x06' + leb(rest[0])
-        if word == 'out':
-            index, value = rest
-            return b'\x07' + mark + leb(index) + operand(value)
-        assert word == 'ret'
-        return b'\x08'
+    def spelled(self, it):
+        kind, depth, *rest = it
+        words = {'set': lambda op, to, *operands: [word(to), op, *map(word, operands)],
+                 'load': lambda _, to, address, offset: [word(to), word(address), offset],
+                 'test': lambda cond, yes, no: [word(cond), yes, no],
+                 'arg': lambda function, index, value: [function, index, word(value)],
+                 'out': lambda index, value: [index, word(value)]}.get(kind, lambda *plain: plain)
+        return spell.command([kind, *words(*rest), *['inside'] * depth])
 
     def writes(self, at):
         """The variable that the site there writes; None where no site stands there."""
@@ -187,7 +156,7 @@ class Program:
 def guarded(at, depth, test, to, address, offset=0):
     """The bounds test of an access at a position, and the load behind it."""
     return [('set', depth, OUTSIDE, test, address, 0, Const(offset + 4)), ('test', depth, test, 3, at + 2),
-            ('load', depth, I32_LOAD, to, address, offset)]
+            ('load', depth, 'load', to, address, offset)]
 
 
 def rows():

@@ -1,19 +1,21 @@
 #!/usr/bin/env python3
 """Prints what directives on programs show, as `spec`, `twin` and `forward` do. It has the rules of both buffer machines, written from docs/CLI.md and
-FORMATS, reads images by companions/blade_companions, and shares no code with Blade. Images are spelled by `images.py` from commands that are written here by hand.
+FORMATS, reads images by companions/blade_companions, and shares no code with Blade. Images are spelled by `spell.py` from commands that are written here by hand.
 
 Directives are letters: `f` fetches, `y` and `n` predict that the condition isn't 0 or that it is, `r` retires, and a digit executes that entry.
 
 usage: python3 oracles/traces.py"""
+import itertools
 import pathlib
 import sys
 
 sys.path.insert(0, str(pathlib.Path(__file__).resolve().parents[1] / 'companions'))
-from blade_companions.formats.image import DIVISIONS, read_image
-from blade_companions.formats.lowering import ACCESS_NAMES
-from blade_companions.formats.running import meaning, read_start, signed, width_of
+from blade_companions.formats.image import read_image
+from blade_companions.formats.operators import ACCESS_NAMES, DIVISIONS, width_of
+from blade_companions.formats.running import meaning, read_start, signed
 
-from images import F, IMAGES, PAGE, spelled
+from images import F, IMAGES, PAGE
+from spell import image as spelled
 
 TRAPS = ['unreachable', 'integer divide by zero', 'integer overflow', 'out of bounds memory access', 'undefined element', 'uninitialized element',
          'indirect call type mismatch']
@@ -84,8 +86,8 @@ class Machine:
         else:
             self.end = 'trapped ' + ('call stack exhausted' if command.kind == 'Call' else TRAPS[self.front])
             entry = Entry('fail')
+        entry.position, self.front = self.front, behind
         self.entries.append(entry)
-        self.front = behind
         return 'none'
 
     # ---- executing
@@ -119,21 +121,25 @@ class Machine:
                 number, word = (entry.value, 'forward') if same else (None, '')
         return None if number is None else (number, word)
 
-    def execute(self, n):
-        if n >= len(self.entries):
-            return None
+    def ready(self, n):
+        """The values by which entry n can be executed; None where it can't."""
         entry = self.entries[n]
         if entry.kind == 'held':
-            if any(other.kind == 'guard' for other in self.entries[:n]):
-                return None
-            entry.kind = 'done'
-            return 'none'
+            return None if any(other.kind == 'guard' for other in self.entries[:n]) else []
         if entry.kind not in ('set', 'load', 'store', 'guard'):
             return None
         values = [self.visible(source, n) for source in entry.sources]
-        if any(value is None for value in values):
+        if None in values or entry.kind == 'load' and self.found(entry.command, self.place(entry.command, values[0]), n) is None:
             return None
-        return getattr(self, entry.kind)(entry, n, values)
+        return values
+
+    def execute(self, n):
+        values = self.ready(n) if n < len(self.entries) else None
+        return None if values is None else getattr(self, self.entries[n].kind)(self.entries[n], n, values)
+
+    def held(self, entry, n, values):
+        entry.kind = 'done'
+        return 'none'
 
     def set(self, entry, n, values):
         shown = self.guarded(f'divide {values[0]} {values[1]}', n) if entry.operator in DIVISIONS else 'none'
@@ -142,10 +148,7 @@ class Machine:
 
     def load(self, entry, n, values):
         at = self.place(entry.command, values[0])
-        found = self.found(entry.command, at, n)
-        if found is None:
-            return None
-        number, word = found
+        number, word = self.found(entry.command, at, n)
         name = ACCESS_NAMES[entry.command.operator]
         if name.endswith('_s'):
             number = signed(number, 8 * width_of(name)) % 2**int(name[1:3])
@@ -250,15 +253,14 @@ def twin(data, letters, one, other, forwards=False):
     return lines + [f'equal {len(letters)}']
 
 
-def told(title, lines):
+def shortened(lines):
     """Equal lines behind one another as one, with their number."""
-    out = []
-    for line in lines:
-        if out and out[-1][0] == line:
-            out[-1][1] += 1
-        else:
-            out.append([line, 1])
-    print(f'{title}: ' + '; '.join(line if count == 1 else f'{count} {line}' for line, count in out))
+    runs = [(line, len(list(same))) for line, same in itertools.groupby(lines)]
+    return [line if count == 1 else f'{count} {line}' for line, count in runs]
+
+
+def told(title, lines):
+    print(f'{title}: ' + '; '.join(shortened(lines)))
 
 
 # ---- programs: v0 is the memory's size, v1 the parameter, v2 the result
@@ -280,7 +282,7 @@ def loads(access, width, protected, memories=PAGE, sizes=1):
 14 {access} {v[6]} {v[4]}
 15 out 0 {v[6]}
 16 ret
-""", 17)
+""")
 
 
 # A load of eight bytes; the other memory is secret. Both have one page
@@ -293,7 +295,7 @@ EIGHT = spelled(BOTH + [1, 1, 0x7F, 0, 1, 0x7E, 5, 7] + F + [0], """
 11 load64 v6 v4
 12 out 0 v6
 13 ret
-""", 14)
+""")
 
 # A store of the parameter at the place that it names, and a load of it
 STORES = spelled([0, 1, 1, 1, 0, 0] + ONE + [5, 8] + F + [0], """
@@ -305,7 +307,7 @@ STORES = spelled([0, 1, 1, 1, 0, 0] + ONE + [5, 8] + F + [0], """
 12 load v5 v1
 13 out 0 v5
 14 ret
-""", 15)
+""")
 
 # A test of the parameter, and its division by 3 in either case
 DIVIDES = spelled([0, 0] + ONE + [3, 4] + F + [0], """
@@ -313,13 +315,13 @@ DIVIDES = spelled([0, 0] + ONE + [3, 4] + F + [0], """
 8 set v2 div_u v0 3
 9 out 0 v2
 10 ret
-""", 11)
+""")
 
 # A call of itself, without end
 CALLS = spelled([0, 0, 1, 0, 0, 0, 2] + F + [0], """
 7 call 0
 8 ret
-""", 9)
+""")
 
 
 def stored(store, width, memories):
@@ -337,7 +339,7 @@ def stored(store, width, memories):
 16 load v8 v6
 17 out 0 v8
 18 ret
-""", 19)
+""")
 
 
 def two_stores(first=8, second=8, one=('store', 4), other=('store', 4), load=('load', 4), protected=''):
@@ -354,7 +356,7 @@ def two_stores(first=8, second=8, one=('store', 4), other=('store', 4), load=('l
 15 {load[0]} v6 8 {protected}
 16 out 0 v6
 17 ret
-""", 18)
+""")
 
 
 # A store of 5 at place 8, and a load of it where the argument isn't 0
@@ -370,7 +372,7 @@ GUESSED = spelled(SMALL + ONE + [5, 11] + F + [0], """
 15 ret
 16 out 0 9
 17 ret
-""", 18)
+""")
 
 AHEAD, ONE_LOAD, ROLLED = 'fffnffnf147', 'fffnffnf14', 'fffnf1423'
 TRACE = 'ffffnfffnf12569'

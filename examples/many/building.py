@@ -45,7 +45,7 @@ def run(words: Iterable[str], folder: str = ".", during: Callable[[subprocess.Po
         except BaseException:
             os.killpg(process.pid, signal.SIGKILL)
             raise
-        process.returncode = os.waitstatus_to_exitcode(status)
+        process.returncode = os.WEXITSTATUS(status) if os.WIFEXITED(status) else -os.WTERMSIG(status)
         seconds = time.monotonic() - begun
         text.seek(0)
         return Ran(process.returncode, text.read(), seconds, used.ru_utime + used.ru_stime)

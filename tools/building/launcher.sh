@@ -3,10 +3,10 @@
 # What ./blade and ./blade-unproved share: they source it. Standard output and the status are the program's; what is said here goes to
 # standard error.
 
-# Prints what the program may not: its one line on standard output is fixed.
+# The commands, as --help lists them.
 print_help() {
-    cat >&2 << COMMANDS
-blade $(cat "$here/VERSION"): hardens WebAssembly modules against speculative leaks, and says whether the result is constant-time
+    cat << COMMANDS
+blade $(< "$here/VERSION"): hardens WebAssembly modules against speculative leaks, and says whether the result is constant-time
   blade harden IMAGE CERT MODULE... [--counts FILE]          writes the hardened image and its certificate, and prints the report
   blade lower IMAGE MODULE...                                writes the image without protects
   blade interp EXPORT START MODULE... [--steps N]            runs a function of the modules
@@ -23,20 +23,87 @@ Words, files, texts and exit statuses: $here/docs/CLI.md
 COMMANDS
 }
 
-# Answers no words, help, --help and --version; whether it did.
+# The launcher's own answers: --help and --version, if nothing else is given, on standard output; whether it was one of them.
 answer() {
-    local word
     case $#${1-} in
-        0 | 1help) print_help; return ;;
-        1--version) echo "blade $(cat "$here/VERSION")" >&2; return ;;
+        1--help | 1-h) print_help ;;
+        1--version) echo "blade $(< "$here/VERSION")" ;;
+        *) return 1 ;;
     esac
-    for word in "$@"; do
-        case $word in
-            --) return 1 ;;
+}
+
+# The operands of a command, as --help has them, without options; fails if there is no such command.
+operands_of() {
+    case $1 in
+        harden) echo 'IMAGE CERT MODULE...' ;;
+        lower) echo 'IMAGE MODULE...' ;;
+        interp) echo 'EXPORT START MODULE...' ;;
+        run) echo 'IMAGE EXPORT START' ;;
+        spec | predict) echo 'IMAGE EXPORT TRACE START' ;;
+        twin | forward) echo 'IMAGE EXPORT TRACE START START2' ;;
+        part) echo 'ROLE IMAGE IFACE MODULE...' ;;
+        join) echo 'IMAGE IFACE CLIENT LIBRARY' ;;
+        verify) echo 'IMAGE CERT' ;;
+        gen) echo 'SEED SIZE' ;;
+        *) return 1 ;;
+    esac
+}
+
+# The options of a command.
+options_of() {
+    case $1 in
+        harden) echo '--counts' ;;
+        interp | predict) echo '--steps' ;;
+        run) echo '--steps --counts' ;;
+    esac
+}
+
+# Prints what is wrong with a call, as far as its words show it without the program; nothing if they don't.
+explain_call() {
+    local command=${1-} operands options given=() wanted word
+    if [ $# = 0 ] || [ "$command" = help ]; then
+        print_help
+        return
+    fi
+    if ! operands=$(operands_of "$command"); then
+        echo "blade: there is no command ${command@Q}; blade --help lists them"
+        return
+    fi
+    options=" $(options_of "$command") "
+    shift
+    while [ $# -gt 0 ] && [ "$1" != -- ]; do
+        word=${1%%=*}
+        case $1 in
             --help | -h) print_help; return ;;
+            --*)
+                if [[ $options != *" $word "* ]]; then
+                    echo "blade: $command has no option ${word@Q}"
+                    return
+                fi
+                if [ "$word" = "$1" ]; then
+                    [ $# -gt 1 ] || { echo "blade: $command: $word has no value"; return; }
+                    shift
+                fi
+                if [ "$word" = --steps ] && [[ ! ${1#--steps=} =~ ^[0-9]+$ ]]; then
+                    echo "blade: $command: --steps takes a number, not ${1@Q}"
+                    return
+                fi
+                ;;
+            *) given+=("$1") ;;
         esac
+        shift
     done
-    return 1
+    given+=("${@:2}")
+    read -r -a wanted <<< "$operands"
+    if [ "${#given[@]}" -lt "${#wanted[@]}" ]; then
+        echo "blade: $command takes $operands; there is no ${wanted[${#given[@]}]}"
+    elif [ "${#given[@]}" -gt "${#wanted[@]}" ] && [[ $operands != *... ]]; then
+        echo "blade: $command takes $operands; ${given[${#wanted[@]}]@Q} is one word too many"
+    elif [ "$command" = part ] && [ "${given[0]}" != client ] && [ "${given[0]}" != library ]; then
+        echo "blade: part takes client or library as ROLE, not ${given[0]@Q}"
+    elif [ "$command" = gen ] && [[ ! ${given[0]}${given[1]} =~ ^[0-9]+$ ]]; then
+        echo "blade: gen takes two numbers, SEED and SIZE"
+    fi
 }
 
 # Warns where a file that harden, lower, part, join, predict or run writes is another of its files: the program compares names as words, and the
@@ -103,10 +170,88 @@ warn_changed() {
     "$label" "$1" --check 2> /dev/null || echo "blade: warning: $1: its code was changed after it was labelled, so its labels may speak of other functions: blade-label it again" >&2
 }
 
-# Whether a program isn't there, or is older than a file or folder that it may be made from.
+# Whether a program isn't there, or is older than a file or folder that it may be made from, or this can't be told.
 is_old() {
-    [ ! -x "$1" ] || [ "$here/crates.txt" -nt "$1" ] || [ -n "$(find "$here/crates" -mindepth 2 -name out -prune -o -path '*/crates/tests_*' -prune -o \
-        \( -name '*.rt' -o -name '*.antt' -o -type d \) -newer "$1" -print -quit)" ]
+    local found
+    [ -x "$1" ] && [ ! "$here/crates.txt" -nt "$1" ] || return 0
+    found=$(find "$here/crates" -mindepth 2 -name out -prune -o -path '*/crates/tests_*' -prune -o \
+        \( -name '*.rt' -o -name '*.antt' -o -type d \) -newer "$1" -print -quit) || return 0
+    [ -n "$found" ]
+}
+
+# The sum over all that the program is made from: its crates' lines in crates.txt, and their sources, definitions and proofs. It needs
+# coreutils and findutils only. Where a tool is missing the sum is another one.
+source_stamp() {
+    local line
+    (
+        cd "$here" || exit
+        export LC_ALL=C
+        while read -r line; do
+            case $line in '' | '#'* | tests_*) ;; *) printf '%s\n' "$line" ;; esac
+        done < crates.txt | sort
+        find crates -mindepth 2 \( -name out -o -path 'crates/tests_*' \) -prune -o -type f \( -name '*.rt' -o -name '*.antt' \) -print0 |
+            sort -z | xargs -0 sha256sum
+    ) | sha256sum | { read -r line _ && echo "$line"; }
+}
+
+# A field of the record beside the program of dist/.
+recorded() {
+    local field rest
+    while read -r field rest; do
+        if [ "$field" = "$1" ]; then echo "$rest"; return; fi
+    done < "$here/dist/RECORD"
+    return 1
+}
+
+# Makes the folder of the user's own in which the program of dist/ is unpacked, and prints it. Nobody else may write or read there.
+unpack_folder() {
+    local base=${XDG_CACHE_HOME:-${HOME:+$HOME/.cache}} folder
+    [ -n "$base" ] || return 1
+    folder=$base/blade/dist
+    (umask 077 && mkdir -p "$folder") || return 1
+    [ -d "$folder" ] && [ ! -L "$folder" ] && [ -O "$folder" ] && [ "$(stat -c %a "$folder")" = 700 ] || return 1
+    echo "$folder"
+}
+
+# Unpacks the program of dist/ into a folder, where it isn't there yet or has another sum, and tries whether it runs.
+unpack() {
+    local folder=$1 sum=$2 made status=0
+    if [ -f "$folder/$sum" ] && [ -O "$folder/$sum" ] && is_sum "$folder/$sum" "$sum"; then return; fi
+    made=$(mktemp "$folder/.unpack-XXXXXX") || return 1
+    if gzip -dc < "$here/dist/blade.gz" > "$made" && is_sum "$made" "$sum" && chmod 700 "$made"; then
+        # With no words it says how it is used, and ends with 2.
+        "$made" < /dev/null > /dev/null 2>&1 || status=$?
+        if [ "$status" = 2 ] && mv -T "$made" "$folder/$sum"; then return; fi
+    fi
+    rm -f "$made"
+    return 1
+}
+
+is_sum() {
+    local sum
+    sum=$(sha256sum < "$1") && [ "${sum%% *}" = "$2" ]
+}
+
+# Sets `unpacked` to the program of dist/, if the record's stamp is the stamp of the sources at hand; fails if it isn't, or if any tool or test
+# fails. A file in the cache has the time at which the stamp was last found equal: it is compared again only when a source, or dist/, changed since.
+find_unpacked() {
+    local sum stamp folder seen found made is_first=
+    [ -f "$here/dist/RECORD" ] && [ -f "$here/dist/blade.gz" ] && [ "$(uname -sm)" = 'Linux x86_64' ] || return 1
+    sum=$(recorded sha256) && stamp=$(recorded stamp) && [[ $sum$stamp =~ ^[0-9a-f]{128}$ ]] || return 1
+    folder=$(unpack_folder) || return 1
+    seen=$(printf %s "$here" | sha256sum) && seen=$folder/of-${seen%% *}
+    unpacked=$folder/$sum
+    if [ -f "$seen" ] && [ "$(< "$seen")" = "$sum $stamp" ] && [ -x "$unpacked" ] && [ -O "$unpacked" ]; then
+        found=$(find "$here/crates.txt" "$here/dist" "$here/crates" -name out -prune -o -path '*/crates/tests_*' -prune -o -cnewer "$seen" -print -quit) || return 1
+        [ -n "$found" ] || return 0
+    fi
+    [ -f "$seen" ] || is_first=1
+    made=$(mktemp "$folder/.seen-XXXXXX") && echo "$sum $stamp" > "$made" || return 1
+    if [ "$(source_stamp)" != "$stamp" ] || ! unpack "$folder" "$sum" || ! mv -T "$made" "$seen"; then
+        rm -f "$made"
+        return 1
+    fi
+    [ -z "$is_first" ] || echo "blade: the program of dist/, proved and built from these sources; ./blade-prove proves it here" >&2
 }
 
 # Builds the program where it is old, then runs the words given, which begin with what is to run.

@@ -53,6 +53,17 @@ def read_crates():
     return crates
 
 
+def read_layers():
+    """The layers of crates.txt, lowest first: the name of each, and its crates in order. The crates of tests are in the last."""
+    layers = []
+    for line in open(os.path.join(TOP, 'crates.txt')):
+        if line.startswith('# ---- '):
+            layers.append((line[7:].strip(), []))
+        elif ':' in line.split('#')[0] and layers:
+            layers[-1][1].append(line.split(':')[0].strip())
+    return layers
+
+
 CRATES = read_crates()
 
 

@@ -4,7 +4,8 @@ import json
 import re
 from unittest import mock
 
-from formats import read as outside
+import read as outside
+from blade_companions.formats.encoding import leb
 
 NUMBERS = [0, 1, 256, 257, 1 << 20, (1 << 31) - 1, 1 << 31, (1 << 32) - 1, 1 << 32, 1 << 63, (1 << 64) - 1, 1 << 64, 1 << 70]
 PLAIN = [b"\x08", b"\x04\x00", b"\x09\x07", b"\x06\x00", b"\x03\x01\x00\x07\x08"]  # commands that any function may have
@@ -12,12 +13,6 @@ SPELLED = ["-0", "-1", "1.0", "1e0", "01", "4294967295", "4294967296", "18446744
            "1" + "0" * 309, "NaN", "null", "true", '"5"', "[]", "{}", "1.", ".5", "+1", "\u0661", "7", '"\\ud800"', '"\\ud83d\\ude00"', '"\\x"', '"\t"', '"\\u0000"']
 BETWEEN = [" ", "\n", "\t", "\r", "\0", "\ufeff", "\u00a0", "\f", "/**/", ",", "0", '"', "\\", "x"]
 NAMES = ["amount", "sink", "sites", "weight", "paths", "x"]
-
-
-def leb(value, longer=0):
-    """A number in its shortest spelling, or with so many bytes more."""
-    digits = max(1, -(-value.bit_length() // 7)) + longer
-    return bytes((value >> 7 * at & 0x7F) | (0x80 if at + 1 < digits else 0) for at in range(digits))
 
 
 class Recorder(outside.Bytes):

@@ -831,9 +831,9 @@ CASES = [
             "unsigned f(unsigned p, unsigned k) { return k ^ p; }\n"
             "unsigned g(unsigned i, unsigned j) { return table[f(j, i) & 255]; }\n")},
         command=(
-            "blade-cc --no-fail a.c -o out/ > /dev/null 2>&1; wasm-opt -O2 out/a.wasm -o x.wasm; rm "
-            "-r out; mkdir out; cp x.wasm out/a.wasm; blade-unproved harden out/a.img out/a.json "
-            "out/a.wasm || $BLADE harden out/a.img out/a.json out/a.wasm"),
+            "blade-cc --no-fail a.c -o out/ > /dev/null 2>&1; wasm-opt -O2 out/a.wasm -o x.wasm && rm -r out && "
+            "mkdir out && cp x.wasm out/a.wasm && $BLADE harden out/a.img out/a.json out/a.wasm && "
+            "blade-explain out/a.img out/a.wasm"),
         starts=("arg 3\narg 1\n", "arg 9\narg 1\n")),
     Case("wasm-opt-later-inlined", CHANGED, {
         "a.c": HEAD + TABLE + (
@@ -844,8 +844,9 @@ CASES = [
             "unsigned f(unsigned k) { return table[k & 255]; }\n"
             "unsigned last(unsigned a) { return a * 3; }\n")},
         command=(
-            "blade-cc --no-fail a.c -o out/ > /dev/null 2>&1; wasm-opt -O3 out/a.wasm -o x.wasm; rm "
-            "-r out; mkdir out; cp x.wasm out/a.wasm; $BLADE harden out/a.img out/a.json out/a.wasm"),
+            "blade-cc --no-fail a.c -o out/ > /dev/null 2>&1; wasm-opt -O3 out/a.wasm -o x.wasm && rm -r out && "
+            "mkdir out && cp x.wasm out/a.wasm && $BLADE harden out/a.img out/a.json out/a.wasm && "
+            "blade-explain out/a.img out/a.wasm"),
         export="f"),
     Case("include-one-unit-nothing", COPY, {
         "labels.h": HEAD + LABELLED,

@@ -2,46 +2,17 @@
 """Makes small valid modules by chance, for tests: with loops, tables, calls of all kinds, labels and demands; every third one imports from
 another. made-modules FOLDER COUNT [SEED] writes NUMBER/first.wasm and, where it imports, NUMBER/second.wasm.
 Licence: public domain (CC0)."""
-import os
 import random
 import sys
 
-I32, I64 = 0x7F, 0x7E
+import harness
+from blade_companions.formats.encoding import I32, I64, custom, func_type, leb, module, section, signed_leb, sized, string, vector
+
 BINARY = {I32: list(range(0x6A, 0x79)), I64: list(range(0x7C, 0x8B))}
 COMPARE = {I32: list(range(0x46, 0x50)), I64: list(range(0x51, 0x5B))}
 UNARY = {I32: [0x45, 0x67, 0x68, 0x69, 0xC0, 0xC1], I64: [0x79, 0x7A, 0x7B, 0xC2, 0xC3, 0xC4]}
 LOADS = {I32: [0x28, 0x2C, 0x2D, 0x2E, 0x2F], I64: list(range(0x29, 0x2A)) + list(range(0x30, 0x36))}
 STORES = {I32: [0x36, 0x3A, 0x3B], I64: [0x37, 0x3C, 0x3D, 0x3E]}
-
-
-def leb(number):
-    spelled = []
-    while True:
-        number, low = number >> 7, number & 0x7F
-        spelled.append(low | (0x80 if number else 0))
-        if not number:
-            return bytes(spelled)
-
-
-def signed(number):
-    spelled = []
-    while True:
-        low, number = number & 0x7F, number >> 7
-        if (number == 0 and not low & 0x40) or (number == -1 and low & 0x40):
-            return bytes(spelled + [low])
-        spelled.append(low | 0x80)
-
-
-def vec(parts):
-    return leb(len(parts)) + b"".join(parts)
-
-
-def text(word):
-    return leb(len(word)) + word.encode()
-
-
-def section(number, contents):
-    return bytes([number]) + leb(len(contents)) + contents
 
 
 class Body:
@@ -68,7 +39,7 @@ class Body:
         there = [at for at, (one, _) in enumerate(self.maker.globals) if one == kind]
         if there and self.chance.random() < 0.4:
             return b"\x23" + leb(self.chance.choice(there))
-        return bytes([0x41 if kind == I32 else 0x42]) + signed(self.chance.choice((0, 1, 2, 7, 8, 64, 255, -1, 4096)))
+        return bytes([0x41 if kind == I32 else 0x42]) + signed_leb(self.chance.choice((0, 1, 2, 7, 8, 64, 255, -1, 4096)))
 
     def operator(self, kind, depth):
         chance = self.chance.random()
@@ -145,7 +116,7 @@ class Body:
         values = b"".join(self.value(one, depth) for one in taken)
         same = [other for other in range(len(self.labels)) if self.labels[-1 - other] == taken]
         ways = [b"\x00", values + b"\x0C" + leb(at), b"".join(self.value(one, depth) for one in self.kind[1]) + b"\x0F",
-                values + self.value(I32, depth) + b"\x0E" + vec([leb(self.chance.choice(same)) for _ in range(3)]) + leb(at)]
+                values + self.value(I32, depth) + b"\x0E" + vector([leb(self.chance.choice(same)) for _ in range(3)]) + leb(at)]
         return self.chance.choice(ways)
 
     def statements(self, depth=0):
@@ -173,8 +144,7 @@ class Body:
     def whole(self):
         body = self.statements() + self.statements() + b"".join(self.value(one) for one in self.kind[1])
         extra = self.locals[len(self.kind[0]) :]
-        spelled = vec([b"\x01" + bytes([one]) for one in extra]) + body + b"\x0B"
-        return leb(len(spelled)) + spelled
+        return vector([b"\x01" + bytes([one]) for one in extra]) + body + b"\x0B"
 
 
 class Maker:
@@ -212,26 +182,26 @@ class Maker:
     def take(self, other):
         for at, kind in enumerate(other.kinds):
             if self.chance.random() < 0.6:
-                self.imports.append(text("first") + text(f"f{at}") + b"\0" + leb(self.type_index(kind)))
+                self.imports.append(string("first") + string(f"f{at}") + b"\0" + leb(self.type_index(kind)))
                 self.kinds.append(kind)
         if other.has_memory and self.chance.random() < 0.5:
-            self.imports.append(text("first") + text("memory") + b"\x02\0\x01")
+            self.imports.append(string("first") + string("memory") + b"\x02\0\x01")
             self.has_memory = True
         if other.has_table and self.chance.random() < 0.7:
-            self.imports.append(text("first") + text("table") + b"\x01\x70\0" + leb(other.slots))
+            self.imports.append(string("first") + string("table") + b"\x01\x70\0" + leb(other.slots))
             self.has_table, self.slots = True, other.slots
         for at, (kind, changes) in enumerate(other.globals):
             if self.chance.random() < 0.5:
-                self.imports.append(text("first") + text(f"g{at}") + b"\x03" + bytes([kind, changes]))
+                self.imports.append(string("first") + string(f"g{at}") + b"\x03" + bytes([kind, changes]))
                 self.globals.append((kind, changes))
 
     def exports(self):
-        found = [text(f"f{at}") + b"\0" + leb(at) for at in range(len(self.kinds))]
-        found += [text(f"g{at}") + b"\x03" + leb(at) for at in range(len(self.globals))]
+        found = [string(f"f{at}") + b"\0" + leb(at) for at in range(len(self.kinds))]
+        found += [string(f"g{at}") + b"\x03" + leb(at) for at in range(len(self.globals))]
         if self.has_memory:
-            found.append(text("memory") + b"\x02\0")
+            found.append(string("memory") + b"\x02\0")
         if self.has_table:
-            found.append(text("table") + b"\x01\0")
+            found.append(string("table") + b"\x01\0")
         return found
 
     def labels(self):
@@ -246,26 +216,25 @@ class Maker:
             demands += [b"\4" + leb(at)] * (pick > 0.9)
         if self.own_memory and self.chance.random() < 0.5:
             entries.append(b"\2\0")
-        return section(0, text("blade.labels") + (b"\2" if demands else b"\1") + vec(entries + demands))
+        return custom("blade.labels", (b"\2" if demands else b"\1") + vector(entries + demands))
 
     def bytes(self):
         defined = self.kinds[self.first_function :]
-        bodies = [self.body(self, kind).whole() for kind in defined]
-        types = [b"\x60" + vec([bytes([one]) for one in kind[0]]) + vec([bytes([one]) for one in kind[1]]) for kind in self.types]
-        made = b"\0asm\1\0\0\0" + section(1, vec(types)) + section(2, vec(self.imports))
-        made += section(3, vec([leb(self.type_index(kind)) for kind in defined]))
+        bodies = [sized(self.body(self, kind).whole()) for kind in defined]
+        made = section(1, vector([func_type(*kind) for kind in self.types])) + section(2, vector(self.imports))
+        made += section(3, vector([leb(self.type_index(kind)) for kind in defined]))
         if self.own_table:
-            made += section(4, vec([b"\x70\0" + leb(self.slots)]))
+            made += section(4, vector([b"\x70\0" + leb(self.slots)]))
         if self.own_memory:
-            made += section(5, vec([b"\1\1\3"]))
-        made += section(6, vec([bytes([kind, changes, 0x41 if kind == I32 else 0x42, 0, 0x0B]) for kind, changes in self.globals[self.first_global :]]))
-        made += section(7, vec(self.exports()))
+            made += section(5, vector([b"\1\1\3"]))
+        made += section(6, vector([bytes([kind, changes, 0x41 if kind == I32 else 0x42, 0, 0x0B]) for kind, changes in self.globals[self.first_global :]]))
+        made += section(7, vector(self.exports()))
         if self.has_table and self.slots and self.kinds:
             at = self.chance.randrange(self.slots)
             count = self.chance.randrange(self.slots - at + 1)
             listed = [leb(self.chance.randrange(len(self.kinds))) for _ in range(count)]
-            made += section(9, vec([b"\0\x41" + signed(at) + b"\x0B" + vec(listed)]))
-        return made + section(10, vec(bodies)) + self.labels()
+            made += section(9, vector([b"\0\x41" + signed_leb(at) + b"\x0B" + vector(listed)]))
+        return module(made, section(10, vector(bodies)), self.labels())
 
 
 def main(words):
@@ -274,10 +243,8 @@ def main(words):
         chance = random.Random(f"{seed} {number}")
         first = Maker(chance)
         makers = [("first", first)] + ([("second", Maker(chance, first))] if number % 3 == 0 else [])
-        os.makedirs(f"{folder}/{number}", exist_ok=True)
         for name, maker in makers:
-            with open(f"{folder}/{number}/{name}.wasm", "wb") as file:
-                file.write(maker.bytes())
+            harness.write_bytes(f"{folder}/{number}/{name}.wasm", maker.bytes())
 
 
 if __name__ == "__main__":

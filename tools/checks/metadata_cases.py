@@ -5,7 +5,7 @@ it takes three protects in front of where the ways meet, and one behind. What is
 
 No module makes these fall among least protects: the tests and the result of a division, since both its operands are ends themselves, and so stable; the
 first test of an access (that it is in bounds) by its address, which is an end too, so that only a size makes it one that may come of a guess; what -1 or a
-constant is, and the locals at the entry of a function, which no load reaches. That they are named all the same is tested by hand, in explain/metadata_selftest.py."""
+constant is, and the locals at the entry of a function, which no load reaches. That they are named all the same is tested by hand, in companions/tests/test_metadata.py."""
 from typing import List, NamedTuple, Tuple
 
 SOURCE = """(module (memory (export "memory") 1 1) (func (export "get") (param i32) (result i32) loop loop loop local.get 0 i32.load return end end end unreachable)

@@ -6,14 +6,15 @@ from collections import defaultdict
 from typing import Dict, Iterable, List, NamedTuple, Sequence, Set, Tuple
 
 from ..formats.image import SELECT, Command, Image
+from ..formats.instructions import CALL, CALL_INDIRECT, read_instruction, read_locals
 from ..formats.labels import Entry
 from ..formats.lowering import Linked
 from ..formats.module import FUNCTION, Module
+from ..formats.reading import Reader
 from ..verdict.flow import declared_origins, find
-from .refusals import Body
 from .units import starts_of, units_of
 
-MOVE, CALL, INDIRECT = 0x00, 0x10, 0x11
+MOVE = 0x00
 
 
 class Given(NamedTuple):
@@ -88,27 +89,22 @@ def public_arguments(image: Image, allowed: Iterable[int]) -> List[Given]:
             if not command.operands[0].is_variable or command.operands[0].value not in secret]
 
 
-class Calls(Body):
-    """The functions that a function's code calls, and whether it calls by the table."""
-
-    def __init__(self, module: Module, function: int, start: int, end: int) -> None:
-        self.called: Set[int] = set()
-        self.is_indirect = False
-        super().__init__(module, function, start, end)
-
-    def immediates(self, code: int) -> None:
-        if code == CALL:
-            self.called.add(self.reader.number())
-        else:
-            self.is_indirect |= code == INDIRECT
-            super().immediates(code)
-
-
 def called_in(module: Module) -> Dict[int, Set[int]]:
-    """Of each function those that its code may call."""
+    """Of each function those that its code may call, by the table all that stand there."""
     imported, listed = len(module.imported(FUNCTION)), {one for element in module.elements for one in element.functions}
-    bodies = [Calls(module, imported + at, start, end) for at, (start, end) in enumerate(module.bodies)]
-    return {one.function: one.called | (listed if one.is_indirect else set()) for one in bodies}
+    return {imported + at: called_by(Reader(module.data, *body), listed) for at, body in enumerate(module.bodies)}
+
+
+def called_by(reader: Reader, listed: Set[int]) -> Set[int]:
+    found: Set[int] = set()
+    list(read_locals(reader))
+    while reader.place < reader.end:
+        one = read_instruction(reader)
+        if one.code == CALL:
+            found.add(one.numbers[0])
+        elif one.code == CALL_INDIRECT:
+            found |= listed
+    return found
 
 
 def reached_from(function: int, called: Dict[int, Set[int]]) -> Set[int]:

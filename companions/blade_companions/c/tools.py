@@ -11,6 +11,7 @@ import sys
 from typing import NamedTuple, Optional, Sequence
 
 from .arguments import MISSING, Stop
+from ..programs import TOP, ready_program
 from ..writing import write_file as written_to
 
 HERE = os.path.dirname(os.path.dirname(os.path.dirname(os.path.realpath(__file__))))  # the folder of blade-cc
@@ -51,14 +52,17 @@ def found(name: str) -> str:
 
 
 def program(given: str) -> str:
-    """blade: as words or the variable BLADE give it, else beside this folder, else on the path."""
-    top = os.path.dirname(HERE)
-    launcher, built = os.path.join(top, "blade"), os.path.join(top, "crates/blade/out/blade")
-    for one in (given, os.environ.get("BLADE"), launcher, "blade"):
+    """blade: as words or the variable BLADE give it, else the launcher of this release or clone, else blade of the path."""
+    launcher = os.path.join(TOP, "blade")
+    for one in (given, os.environ.get("BLADE")):
         if one and shutil.which(one):
-            if one == launcher and os.path.exists(os.path.join(top, "crates.txt")) and not os.path.exists(built):
-                raise Stop(MISSING, f"blade-cc: error: {launcher} isn't built yet: run it once, or give a program by --blade PROGRAM or BLADE")
             return one
+    if os.path.exists(launcher):
+        if ready_program():
+            return launcher
+        raise Stop(MISSING, f"blade-cc: error: {launcher} isn't built yet: run it once, or give a program by --blade PROGRAM or BLADE")
+    if shutil.which("blade"):
+        return "blade"
     raise Stop(MISSING, "blade-cc: error: there is no blade: give it by --blade PROGRAM or BLADE, or install a release")
 
 

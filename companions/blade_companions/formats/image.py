@@ -5,21 +5,14 @@ import os
 from dataclasses import dataclass, field
 from typing import Container, Dict, List, NamedTuple, Optional, Tuple
 
+from .operators import ARITIES, DIVISIONS, LOADS, STORES
 from .reading import Bad, Reader, limited, read_file
 from ..printing import called
 
 TRAPS = 7  # the positions in front of the first function
 VALUE_TYPES, DEPTHS, MOST_FUNCTIONS = (0x7F, 0x7E), 6, 80_000
-# Operators by how many operands they take: all others take two.
-ONE = frozenset([0x00, 0x45, 0x50, 0x67, 0x68, 0x69, 0x79, 0x7A, 0x7B, 0xA7, 0xAC, 0xAD, 0xC0, 0xC1, 0xC2, 0xC3, 0xC4])
-OUTSIDE, SELECT = 0x01, 0x1B
-THREE = frozenset([OUTSIDE, SELECT])
-DIVISIONS = frozenset([0x6D, 0x6E, 0x6F, 0x70, 0x7F, 0x80, 0x81, 0x82])
 SITES = frozenset(["Set", "Load", "Arg", "Out"])
 LEAVING = frozenset(["Test", "Jump", "Ret", "Trap"])  # a function ends in one of them
-# The codes of a Set, a Load and a Store.
-OPERATIONS = frozenset([0x00, OUTSIDE, SELECT, 0x45, 0x50, 0xA7, 0xAC, 0xAD, *range(0x46, 0x5B), *range(0x67, 0x8B), *range(0xC0, 0xC5)])
-LOADS, STORES = frozenset([0x28, 0x29, *range(0x2C, 0x36)]), frozenset([0x36, 0x37, *range(0x3A, 0x3F)])
 
 
 class Operand(NamedTuple):
@@ -274,9 +267,8 @@ class CommandReader:
         return number
 
     def set(self, _: Function) -> Command:
-        mark, operator, to = self.mark(), self.code(OPERATIONS), self.variable()
-        count = 1 if operator in ONE else 3 if operator in THREE else 2
-        operands = tuple(self.operand() for _ in range(count))
+        mark, operator, to = self.mark(), self.code(ARITIES), self.variable()
+        operands = tuple(self.operand() for _ in range(ARITIES[operator]))
         reads = named(operands)
         return Command("Set", operands, reads, reads if operator in DIVISIONS else (), to, operator, mark=mark)
 

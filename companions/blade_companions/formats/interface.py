@@ -5,9 +5,9 @@ from __future__ import annotations
 import re
 from typing import Dict, List, NamedTuple, Optional, Sequence, Set, Tuple
 
-from .labels import leb
+from .encoding import func_type, leb, of_functions, section, signed_leb, string, vector
 from .reading import LIMITS, Bad, read_file
-from .module import FUNCTION, MAGIC, FuncType, Import, Module
+from .module import FUNCTION, FuncType, Import, Module
 
 LINE = re.compile("function (-|[st]+) (-|[st]+) (.*)", re.S)
 SORTS = ("function", "table", "memory", "global")
@@ -84,25 +84,10 @@ class Linked:
 
 # ---- made
 
-def vector(parts: Sequence[bytes]) -> bytes:
-    return leb(len(parts)) + b"".join(parts)
-
-
-def section(number: int, parts: Sequence[bytes]) -> bytes:
-    contents = vector(parts)
-    return bytes([number]) + leb(len(contents)) + contents
-
-
 def body(earlier: int) -> bytes:
     """A body of its own behind so many functions of the type: it divides their number by 0, which wasm-opt doesn't take for the division of another."""
-    own = b"\x41" + constant(earlier) + b"\x41\x00\x6e" if earlier else b""
-    made = leb(0) + own + UNREACHABLE + END
-    return leb(len(made)) + made
-
-
-def constant(number: int) -> bytes:
-    """A number from 0 on in signed LEB128."""
-    return leb(number) if number < 0x40 else bytes([number & 0x7F | 0x80]) + constant(number >> 7)
+    own = b"\x41" + signed_leb(earlier) + b"\x41\x00\x6e" if earlier else b""
+    return leb(0) + own + UNREACHABLE + END
 
 
 def stub_of(name: str, lines: Sequence[Line], library: Linked) -> bytes:
@@ -114,13 +99,11 @@ def stub_of(name: str, lines: Sequence[Line], library: Linked) -> bytes:
         kind = library.type_of(line)
         if line.parts[0] != name or kind is None:
             continue
-        functions.append(leb(places.setdefault(kind, len(places))))
+        functions.append(places.setdefault(kind, len(places)))
         bodies.append(body(counts.get(kind, 0)))
         counts[kind] = counts.get(kind, 0) + 1
-        spelled = line.parts[1].encode()
-        exports.append(leb(len(spelled)) + spelled + bytes([FUNCTION]) + leb(len(exports)))
-    types = [b"\x60" + vector([bytes([one]) for one in kind.params]) + vector([bytes([one]) for one in kind.results]) for kind in places]
-    return MAGIC + section(1, types) + section(3, functions) + section(7, exports) + section(10, bodies)
+        exports.append(string(line.parts[1]) + bytes([FUNCTION]) + leb(len(exports)))
+    return of_functions([func_type(*kind) for kind in places], functions, bodies, section(7, vector(exports)))
 
 
 # ---- checked

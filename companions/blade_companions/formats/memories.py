@@ -3,18 +3,18 @@ from __future__ import annotations
 
 from typing import Optional, Tuple
 
-from .labels import leb
+from .encoding import MAGIC, leb, section
 from .reading import Bad, Reader
-from .module import MAGIC, Module
+from .module import Module
 
 MEMORIES = 5  # the section's number
 
 
 def pages_of(module: Module) -> Tuple[int, Optional[int]]:
     """The first and the most pages of the memory that a module defines."""
-    for section in module.sections:
-        if section.number == MEMORIES:
-            reader = Reader(module.data, section.contents, section.end)
+    for one in module.sections:
+        if one.number == MEMORIES:
+            reader = Reader(module.data, one.contents, one.end)
             if reader.number():
                 flag, least = reader.byte(), reader.number()
                 return least, reader.number() if flag & 1 else None
@@ -26,5 +26,5 @@ def with_pages(module: Module, pages: Tuple[int, Optional[int]]) -> bytes:
     pages_of(module)
     least, most = pages
     contents = b"\1" + (b"\0" if most is None else b"\1") + leb(least) + (b"" if most is None else leb(most))
-    made = b"\5" + leb(len(contents)) + contents
+    made = section(MEMORIES, contents)
     return MAGIC + b"".join(made if one.number == MEMORIES else module.data[one.start : one.end] for one in module.sections)

@@ -16,7 +16,7 @@ from collections import Counter, defaultdict
 from typing import Dict, List, NamedTuple, Optional, Sequence, Tuple
 
 from .image import Image
-from .labels import leb
+from .encoding import custom, leb, sized, vector
 from ..c.lines import Lines, Spot
 from .reading import Bad, Reader
 from .module import FUNCTION, Module
@@ -131,14 +131,15 @@ def annotations(image: Image, lines: Lines) -> Dict[str, Annotated]:
 
 
 def section_of(one: Annotated) -> bytes:
-    spelled = [leb(len(NAME)), NAME.encode(), leb(len(one.places))]
-    for function in sorted(one.places):
-        spelled += [leb(function), leb(len(one.places[function]))]
-        for offset in sorted(one.places[function]):
-            data = b"".join(bytes([held.what]) + (leb(held.number) if held.what else b"") for held in sorted(one.places[function][offset]))
-            spelled += [leb(offset), leb(len(data)), data]
-    contents = b"".join(spelled)
-    return b"\0" + leb(len(contents)) + contents
+    functions = []
+    for function, places in sorted(one.places.items()):
+        listed = [leb(offset) + sized(b"".join(map(entry_of, sorted(held)))) for offset, held in sorted(places.items())]
+        functions.append(leb(function) + vector(listed))
+    return custom(NAME, vector(functions))
+
+
+def entry_of(held: Held) -> bytes:
+    return bytes([held.what]) + (leb(held.number) if held.what else b"")
 
 
 def annotated(module: Module, one: Annotated) -> bytes:

@@ -5,10 +5,10 @@ import os
 from dataclasses import dataclass, field
 from typing import Dict, List, NamedTuple, Optional, Tuple
 
+from .encoding import MAGIC
 from .reading import Bad, Reader, limited, read_file
 from ..printing import called
 
-MAGIC = b"\0asm\1\0\0\0"
 FUNCTION, TABLE, MEMORY, GLOBAL = range(4)
 
 

@@ -6,8 +6,8 @@ from collections import Counter
 from dataclasses import dataclass, field
 from typing import Callable, Dict, Iterator, List, Tuple
 
-from .image import DIVISIONS, OUTSIDE, SELECT, TRAPS, Image
-from .lowering import ACCESS_NAMES, OPERATORS
+from .image import TRAPS, Image
+from .operators import ACCESS_NAMES, DIVISIONS, MOVE, OPERATIONS, OPERATORS, OUTSIDE, SELECT, width_of
 from .reading import MOST_CALLS, Bad
 
 PAGE = 65536
@@ -52,7 +52,7 @@ SINGLE: Dict[str, Callable[[int, int], int]] = {
 
 def meaning(operator: int) -> Callable[..., int]:
     """An operator on the values of its operands."""
-    if operator == 0:
+    if operator == MOVE:
         return lambda a: a
     if operator == OUTSIDE:
         return lambda a, pages, reach: int(a + reach > pages * PAGE)
@@ -67,12 +67,6 @@ def meaning(operator: int) -> Callable[..., int]:
         return (lambda a: int(one(a & narrow, bits)) & mask) if name != "wrap_i64" else (lambda a: a & mask)
     two = ARITHMETIC[name]
     return lambda a, b: int(two(a & mask, b & mask, bits)) & mask
-
-
-def width_of(name: str) -> int:
-    """How many bytes an access has."""
-    digits = name.split("load")[-1].split("store")[-1].split("_")[0]
-    return int(digits or name[1:3]) // 8
 
 
 @dataclass
@@ -130,7 +124,7 @@ class Run:
         self.entering: Dict[int, int] = {}
         self.returns: List[int] = []
         self.position, self.left = defined.entry, False
-        self.meanings = {code: meaning(code) for code in {0, OUTSIDE, SELECT, *OPERATORS}}
+        self.meanings = {code: meaning(code) for code in OPERATIONS}
         self.widths = {code: width_of(name) for code, name in ACCESS_NAMES.items()}
         self.extends = {code: (width_of(name) * 8, int(name[1:3])) for code, name in ACCESS_NAMES.items() if name.endswith("_s")}
 

@@ -11,7 +11,8 @@ from .causes import Cause
 from ..witnesses.directives import last_of
 from .flow import End, Findings, find, is_bounds_test
 from .guesses import POINTER, SHARED, Guess
-from ..formats.image import DIVISIONS, Image
+from ..formats.image import Image
+from ..formats.operators import DIVISIONS
 from ..c.lines import Line, Lines
 from ..witnesses.meeting import Meeting
 from ..witnesses.pairs import Secret, ranges_of, what_changes

@@ -6,7 +6,8 @@ from collections import defaultdict
 from dataclasses import dataclass, field
 from typing import Dict, Iterable, List, NamedTuple, Optional, Sequence, Set, Tuple
 
-from ..formats.image import OUTSIDE, Command, Image
+from ..formats.image import Command, Image
+from ..formats.operators import OUTSIDE
 
 CONDITION, LOAD_ADDRESS, STORE_ADDRESS, DIVISION, STORED, DEMANDED = KINDS = (
     "condition", "address of a load", "address of a store", "division", "store to a public memory", "demanded public")

@@ -13,7 +13,7 @@ from .causes import Cause
 from .flow import Findings
 from ..formats.image import Command, Image, Operand
 from ..c.lines import Line, Lines
-from ..formats.lowering import ACCESS_NAMES, KINDS
+from ..formats.operators import ACCESS_NAMES, KINDS
 from ..formats.certificate import Protect, function_name
 from .evidence import Evidence
 from .text import by_line, declared_text, evidence_text, kinds_text, verdict_text

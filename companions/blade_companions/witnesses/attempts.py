@@ -10,7 +10,7 @@ from typing import Callable, Dict, Iterator, List, NamedTuple, Optional, Sequenc
 from ..verdict.flow import Findings
 from ..formats.image import Image
 from .meeting import Meeting
-from .pairs import Pair, Secret, flipped, is_wide, turned
+from .pairs import Pair, Secret, drawn, flipped, is_wide, turned
 from .program import Outcome, Program
 from ..formats.running import read_start, traced
 from .steering import LINES, Choosing, Recorded, WrongGuesses
@@ -113,7 +113,7 @@ class Sought:
         lines = made.trace()
         with open(path, "w", encoding="ascii") as file:
             file.writelines(f"{line}\n" for line in lines)
-        return self.first_apart(one, path)._replace(paths=made.paths)
+        return self.first_apart(one, path)._replace(paths=made.paths, cut=made.cut)
 
     def wrong(self, number: int, arguments: Optional[Sequence[int]]) -> WrongGuesses:
         """The trace with wrong guesses that has a number."""
@@ -150,7 +150,7 @@ class Sought:
     def attempts(self) -> Iterator[Attempt]:
         """The same ones for the same seed."""
         chance, first = random.Random(self.seed), self.secret.first
-        yield Attempt(first, (turned(first), flipped(first, 0), chance.randbytes(len(first))), whole=True)
+        yield Attempt(first, (turned(first), flipped(first, 0), drawn(chance, len(first))), whole=True)
         whole, pairs = self.meeting.left, self.secret.pairs(chance)
         met = bool(self.meeting.first)
         few = FEW if met or not whole else 2
@@ -169,7 +169,7 @@ class Sought:
     def wrong_attempt(self, chance: random.Random, number: int, arguments: Optional[Tuple[int, ...]]) -> Attempt:
         """One on a trace with wrong guesses."""
         first = self.secret.first
-        return Attempt(first, (turned(first), chance.randbytes(len(first))), number, arguments)
+        return Attempt(first, (turned(first), drawn(chance, len(first))), number, arguments)
 
     def aimed(self, chance: random.Random) -> Iterator[Pair]:
         """Changes of the bytes that an end meets, those first that none before it met."""

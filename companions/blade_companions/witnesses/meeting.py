@@ -5,7 +5,8 @@ from __future__ import annotations
 from typing import Dict, List, Sequence, Set, Tuple
 
 from ..verdict.flow import Origin, demanded_variables
-from ..formats.image import DIVISIONS, Image, Operand
+from ..formats.image import Image, Operand
+from ..formats.operators import DIVISIONS
 from .pairs import Secret
 from .steering import Recorded
 

@@ -111,21 +111,21 @@ class Secret:
         """Pairs of secrets, without end: those with that of the start file first."""
         first, size = self.first, len(self.first)
         yield first, turned(first)
-        yield first, chance.randbytes(size)
+        yield first, drawn(chance, size)
         yield first, b"\xff" * size
         yield first, bytes(size)
         yield first, flipped(first, chance.randrange(8 * size))
         for _, at, data in self.pieces(first):
-            yield first, first[:at] + chance.randbytes(len(data)) + first[at + len(data) :]
+            yield first, first[:at] + drawn(chance, len(data)) + first[at + len(data) :]
         yield from self.alike(chance)
         while True:
-            other = chance.randbytes(size)
-            yield other, chance.randbytes(size)
+            other = drawn(chance, size)
+            yield other, drawn(chance, size)
             yield first, flipped(first, chance.randrange(8 * size))
             yield other, flipped(other, chance.randrange(8 * size))
             small = bytes(chance.choice((0, 0, 0, 1, 2, 0x7F, 0x80, 0xFF)) for _ in range(size))
             yield small, bytes(chance.choice((0, 1, 0xFE, 0xFF)) for _ in range(size))
-            yield first, chance.randbytes(size)
+            yield first, drawn(chance, size)
 
     def alike(self, chance: random.Random) -> Iterator[Pair]:
         """Pieces of one size made equal, and one byte of one of them changed: what compares them goes further."""
@@ -146,6 +146,11 @@ def contents(image: Image, memory: int, start: Start) -> bytearray:
         if number == memory:
             space[offset : offset + len(data)] = data
     return space
+
+
+def drawn(chance: random.Random, size: int) -> bytes:
+    """Bytes by chance. (Random.randbytes, which gives the same, isn't in Python 3.8.)"""
+    return chance.getrandbits(8 * size).to_bytes(size, "little") if size else b""
 
 
 def turned(data: bytes) -> bytes:

@@ -8,22 +8,24 @@ from dataclasses import dataclass
 from typing import Dict, List, NamedTuple, Optional, Sequence, Tuple
 
 from ..formats.reading import Bad
+from ..programs import ready_program
 
-TOP = os.path.dirname(os.path.dirname(os.path.dirname(os.path.dirname(os.path.realpath(__file__)))))
-BUILT = ("libexec/blade", "crates/blade/out/blade")  # of a release, of a clone
 ALIKE, DIFFER, TRAPPED, SPENT, STUCK = 0, 1, 16, 17, 18
 STEPS = 100_000_000  # of a run
 
 
 def program_of(asked: Optional[str]) -> str:
-    """The program: that which is asked for, else that of BLADE, else the one that is built beside these scripts, else blade of PATH. A launcher isn't
-    taken by itself: each call would look anew whether the program is up to date."""
-    for one in (asked, os.environ.get("BLADE"), *(f"{TOP}/{path}" for path in BUILT), "blade"):
+    """The program: that which is asked for, else that of BLADE, else the one of this release or clone, else blade of PATH. A launcher isn't taken by
+    itself: each call would look anew whether the program is up to date."""
+    for one in (asked, os.environ.get("BLADE")):
         if one and shutil.which(one):
             return os.path.abspath(one) if os.path.dirname(one) else one
         if one and one == asked:
             raise Bad(f"{one} is no program")
-    raise Bad("there is no blade that is built: run ./blade once, or give one by --blade PROGRAM or BLADE")
+    found = ready_program() or ("blade" if shutil.which("blade") else None)
+    if found is None:
+        raise Bad("there is no blade that is built: run ./blade once, or give one by --blade PROGRAM or BLADE")
+    return found
 
 
 @dataclass

@@ -6,7 +6,8 @@ from collections import Counter, defaultdict
 from typing import Dict, Iterator, List, NamedTuple, Optional, Sequence, Tuple
 
 from ..verdict.flow import is_bounds_test
-from ..formats.image import OUTSIDE, TRAPS, Command, Image, Operand
+from ..formats.image import TRAPS, Command, Image, Operand
+from ..formats.operators import OUTSIDE
 from ..formats.running import PAGE, Run, Start, freed, signed
 
 ROOM, FORWARD_ROOM = 64, 32  # entries of the buffers of twin and of forward
@@ -230,6 +231,7 @@ class WrongGuesses:
         self.times: Counter = Counter()
         self.lines: List[str] = []
         self.paths: List[Tuple[int, int]] = []  # the lines of each wrong path, from and behind
+        self.cut = False  # whether the trace ends before its run
 
     def take(self, position: int, command: Command, taken: bool) -> bool:
         """Goes the wrong way from a test, if it is worth it."""
@@ -258,6 +260,7 @@ class WrongGuesses:
                 self.access(command, steps)
             else:
                 self.lines += ("fetch", "exec 0", *freed(0, command), "retire")
+        self.cut = len(self.lines) > LINES or not self.run.left
         return self.lines[:LINES]
 
     def access(self, bounds: Command, steps: Iterator[tuple]) -> None:

@@ -118,5 +118,5 @@ def nothing(done: Done, evidence: Evidence, seconds: float, lines: Lines) -> Ite
     ended = f", stopped after {seconds:g} seconds" if done.stopped else ""
     yield f"nothing found, which isn't to say that there is nothing{ended}: {done.text()}"
     if done.cut:
-        yield f"  traces end at {LINES:,} directives, before the run does"
+        yield f"  the search isn't complete: traces end at {LINES:,} directives, before the run does"
     yield from of_the_run(evidence, lines)

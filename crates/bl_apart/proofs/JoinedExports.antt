@@ -4,9 +4,10 @@ use Rattle.std.specs.Prelude.{if◌then◌else◌, not, option_map, unwrap_or, f
 use Rattle.std.specs.List.{All, AllZip, cons_option, enumerate_from, filter}
 use Rattle.std.specs.Str.{bytes_eq}
 use Rattle.std.proofs.lemmas.List.Elements.{All-head, All-tail, filter_map-append}
-use Rattle.std.proofs.lemmas.Option.{slice_get_within}
+use Rattle.std.proofs.lemmas.Bool.{not-true}
+use Rattle.std.proofs.lemmas.Option.{same_Some, slice_get_within}
 use Rattle.std.proofs.lemmas.Slice.Eq.{bytes_eq-Decides}
-use Rattle.bl_base.proofs.Lists.{all_get, get_mapped, zip_got}
+use Rattle.bl_base.proofs.Lists.{all_get, get_mapped, mapped_get, zip_get, zip_got}
 use Rattle.bl_wasm.specs.Exports.{Pairs}
 use Rattle.bl_wasm.specs.declared.module.ExportKind.TheVariants as export
 use Rattle.bl_wasm.specs.declared.linked.Tree.{Tree}
@@ -21,8 +22,8 @@ use Rattle.bl_iface.specs.JoinedProgram.{is_named}
 use Rattle.bl_iface.specs.declared.iface.FnIface.{FnIface}
 use Rattle.bl_iface.specs.declared.iface.Iface.{Iface}
 use Rattle.bl_whole.specs.JoinedTree.{joined_tree, kept_in}
-use Rattle.bl_apart.specs.BesideStores.{EntryAlike, Exports, NumberAlike, Setting}
-use Rattle.bl_apart.specs.LinkedApart.{AreLinked, AreUsers, IsExported, IsOwn, setting, whole_numbers}
+use Rattle.bl_apart.specs.BesideStores.{AreGiven, EntryAlike, Exports, NumberAlike, Setting}
+use Rattle.bl_apart.specs.LinkedApart.{AreLinked, AreUsers, HasOrigin, IsExported, IsOwn, setting, whole_numbers}
 use Rattle.bl_apart.proofs.BesideLinks.{AreLinkedBeside, stores_beside}
 use Rattle.bl_apart.proofs.BesideOffers.{ArePairs, pair_is, pairs_all}
 use Rattle.bl_apart.proofs.JoinedLinks.{agree, given}
@@ -41,6 +42,19 @@ filtered_at {A} test (y ∷ xs) (suc i) x e h = by (test y) refl (filtered_at te
     by : (b : Bool) → test y ≡ b → (j : ℕ) × (slice_get (filter test xs) j ≡ Some x) → (j : ℕ) × (slice_get (filter test (y ∷ xs)) j ≡ Some x)
     by true k rest = (suc rest.0, ap (λ (b : Bool). slice_get (if b then y ∷ filter test xs else filter test xs) (suc rest.0)) k ∙ rest.1)
     by false k rest = (rest.0, ap (λ (b : Bool). slice_get (if b then y ∷ filter test xs else filter test xs) rest.0) k ∙ rest.1)
+
+filtered_from : {A : Type 0} (test : A → Bool) (xs : List A) (i : ℕ) (x : A) → slice_get (filter test xs) i ≡ Some x → (j : ℕ) × (slice_get xs j ≡ Some x) × (test x ≡ true)
+filtered_from test [] i x e = absurd (cc e)
+filtered_from {A} test (y ∷ xs) i x e = by (test y) refl (λ k f. filtered_from test xs k x f)
+  where
+    by : (b : Bool) → test y ≡ b → ((k : ℕ) → slice_get (filter test xs) k ≡ Some x → (j : ℕ) × (slice_get xs j ≡ Some x) × (test x ≡ true))
+        → (j : ℕ) × (slice_get (y ∷ xs) j ≡ Some x) × (test x ≡ true)
+    by true k rest = front i (sym (ap (λ (b : Bool). slice_get (if b then y ∷ filter test xs else filter test xs) i) k) ∙ e)
+      where
+        front : (i : ℕ) → slice_get (y ∷ filter test xs) i ≡ Some x → (j : ℕ) × (slice_get (y ∷ xs) j ≡ Some x) × (test x ≡ true)
+        front zero e = (0, e, sym (ap test (same_Some y x e)) ∙ k)
+        front (suc i) e = let later = rest i e in (suc later.0, later.1, later.2)
+    by false k rest = let later = rest i (sym (ap (λ (b : Bool). slice_get (if b then y ∷ filter test xs else filter test xs) i) k) ∙ e) in (suc later.0, later.1, later.2)
 
 chosen_at : {A B : Type 0} (h : A → Option B) (xs : List A) (i : ℕ) (x : A) (b : B) → slice_get xs i ≡ Some x → h x ≡ Some b → (j : ℕ) × (slice_get (filter_map h xs) j ≡ Some b)
 chosen_at h [] i x b e k = absurd (cc e)
@@ -96,6 +110,25 @@ module _ (s : Setting) (ours theirs : Values) (client whole : Tree) (client_is :
         alike = same ∙ ap (λ (p : List ℕ × ℕ). s.theirs.names.function p.1) there.1;
       }
 
+-- a function that users export in the client they export in the whole tree too
+module _ (s : Setting) (ours theirs : Values) (library whole : Tree) (whole_is : whole.exports ≡ library.exports ++ filter_map pair theirs) (alike : AllZip (EntryAlike s) ours theirs) where
+  users_keep : (j : ℕ) (name : List ℕ) (function : ℕ) → slice_get (filter_map pair ours) j ≡ Some (name, function) → (other : ℕ) × Exports whole name other
+  users_keep j name function e =
+      let c = came pair ours j (name, function) e in
+      let here = pair_is c.source.1.kind (c.source.0, c.source.1.number) (name, function) c.gave in
+      let u = zip_get (EntryAlike s) ours theirs c.place c.source alike c.found in
+      let its : List ℕ × External = u.0 in
+      let kind : its.1.kind ≡ export.Function = sym u.2.1.kind ∙ here.0 in
+      let named : its.0 ≡ name = sym u.2.0 ∙ ap (λ (p : List ℕ × ℕ). p.0) here.1 in
+      let there = chosen_at pair theirs c.place its (name, its.1.number) u.1 (ap₂ (λ k (n : List ℕ). of_function k (n, its.1.number)) kind named) in (
+        its.1.number,
+        (
+          length library.exports + there.0,
+          ap (λ (l : Pairs). slice_get l (length library.exports + there.0)) whole_is
+              ∙ get_right library.exports (filter_map pair theirs) (length library.exports + there.0) there.0 refl ∙ there.1,
+        ),
+      )
+
 module _ (iface : Iface) (stubs libraries users : List Part) (stub library client whole : Tree) (are : AreLinked stubs libraries users stub library client whole)
     (joins : AreUsers iface stub client library users) where
   abbrev s : Setting
@@ -115,6 +148,40 @@ module _ (iface : Iface) (stubs libraries users : List Part) (stub library clien
   tails parts n first last more before after e f b a g =
       let one : ArePairs first = pairs_all parts 0 nothing first refl e in
       behind_others first.exports last.exports more before.exports after.exports (ap (λ (t : Tree). t.exports) b ∙ one) (ap (λ (t : Tree). t.exports) (sym a) ∙ pairs_all users n first last one f) g
+
+  abbrev g : AreGiven s stubs libraries users
+  g = given iface stubs libraries users stub library client whole are joins
+
+  here_is : client.exports ≡ stub.exports ++ filter_map pair beside.stores.exports.ours
+  here_is = tails stubs (0 + length stubs) g.one beside.ours.last beside.stores.exports.ours stub client g.one_is beside.ours.run g.one_tree beside.ours.same beside.stores.exports.here_is
+
+  there_is : whole.exports ≡ library.exports ++ filter_map pair beside.stores.exports.theirs
+  there_is = tails libraries (0 + length libraries) g.other beside.theirs.last beside.stores.exports.theirs library whole g.other_is beside.theirs.run g.other_tree beside.theirs.same beside.stores.exports.there_is
+
+  module _ (name : List ℕ) (number : ℕ) where
+    -- a library's export is the whole tree's
+    origin_there : (j : ℕ) → slice_get (map moved library.exports) j ≡ Some (name, number) → HasOrigin iface stub whole name number
+    origin_there j e =
+        let m = mapped_get moved library.exports j (name, number) e in
+        let its : List ℕ × ℕ = m.0 in
+        let same : slice_get library.exports j ≡ Some (name, its.1) = m.1 ∙ ap (λ (n : List ℕ). Some (n, its.1)) (ap (λ (p : List ℕ × ℕ). p.0) m.2) in
+        let stands = ap (λ (l : Pairs). slice_get l j) there_is ∙ get_left library.exports (filter_map pair beside.stores.exports.theirs) j (slice_get_within library.exports j (name, its.1) same) ∙ same in
+        inl (its.1, (j, stands))
+
+    -- a client's that is kept is the stub's, or users' and so the whole tree's
+    origin_here : (i : ℕ) → slice_get client.exports i ≡ Some (name, number) → not (is_named iface.functions name) ≡ true → HasOrigin iface stub whole name number
+    origin_here i e kept = elim (append_cases stub.exports (filter_map pair beside.stores.exports.ours) i (name, number) (ap (λ (l : Pairs). slice_get l i) (sym here_is) ∙ e)) [
+      | inl h ↦ inr ((i, h), not-true (is_named iface.functions name) kept)
+      | inr h ↦ inl (users_keep s beside.stores.exports.ours beside.stores.exports.theirs library whole there_is beside.stores.exports.alike h.0 name number h.2)
+    ]
+
+    pub has_origin : Exports (joined_tree client library iface) name number → HasOrigin iface stub whole name number
+    has_origin there = elim (append_cases (kept_in iface client.exports) (map moved library.exports) there.0 (name, number) there.1) [
+      | inl h ↦
+          let from = filtered_from (λ (pair : List ℕ × ℕ). not (is_named iface.functions pair.0)) client.exports there.0 (name, number) h in
+          origin_here from.0 from.1 from.2
+      | inr h ↦ origin_there h.0 h.2
+    ]
 
   module _ (name : List ℕ) (function : ℕ) (exported : All (IsExported library) iface.functions) (own : IsOwn stub client name) where
     -- the library's exports stay
@@ -157,12 +224,7 @@ module _ (iface : Iface) (stubs libraries users : List Part) (stub library clien
             absurd (omega arith)
 
     pub export_kept : Exports whole name function → Exports (joined_tree client library iface) name ((whole_numbers stub client library).names.function function)
-    export_kept there =
-        let e = beside.stores.exports in
-        let g = given iface stubs libraries users stub library client whole are joins in
-        let here = tails stubs (0 + length stubs) g.one beside.ours.last e.ours stub client g.one_is beside.ours.run g.one_tree beside.ours.same e.here_is in
-        let behind = tails libraries (0 + length libraries) g.other beside.theirs.last e.theirs library whole g.other_is beside.theirs.run g.other_tree beside.theirs.same e.there_is in
-        elim (append_cases library.exports (filter_map pair e.theirs) there.0 (name, function) (ap (λ (l : Pairs). slice_get l there.0) (sym behind) ∙ there.1)) [
-          | inl h ↦ of_library there.0 h
-          | inr h ↦ of_users h.0 (users_export s e.ours e.theirs client whole here e.alike h.0 name function h.2)
-        ]
+    export_kept there = elim (append_cases library.exports (filter_map pair beside.stores.exports.theirs) there.0 (name, function) (ap (λ (l : Pairs). slice_get l there.0) (sym there_is) ∙ there.1)) [
+      | inl h ↦ of_library there.0 h
+      | inr h ↦ of_users h.0 (users_export s beside.stores.exports.ours beside.stores.exports.theirs client whole here_is beside.stores.exports.alike h.0 name function h.2)
+    ]

@@ -1,6 +1,6 @@
 -- Modules that were linked over a stub, and the same modules linked over the library that the stub stands for (after WebAssembly
 -- 1.0, section 4.5.4).
-use Rattle.std.specs.Prelude.{◌≡◌, ℕ, ◌+◌, ◌-◌, ◌<◌, nat_lt, if◌then◌else◌, List, ◌++◌, length, Some, Ok, ◌⊎◌}
+use Rattle.std.specs.Prelude.{◌≡◌, ℕ, ◌+◌, ◌-◌, ◌<◌, false, nat_lt, if◌then◌else◌, List, ◌++◌, length, Some, Ok, ◌⊎◌}
 use Rattle.std.specs.List.{All, Contains}
 use Rattle.bl_wasm.specs.Exports.{value_named}
 use Rattle.bl_wasm.specs.declared.module.Import.{Import}
@@ -9,6 +9,7 @@ use Rattle.bl_link.specs.ExportNames.{qualified}
 use Rattle.bl_link.specs.Linkable.{AreParts, IsSound}
 use Rattle.bl_link.specs.Links.{links}
 use Rattle.bl_link.specs.declared.part.Part.{Part}
+use Rattle.bl_iface.specs.JoinedProgram.{is_named}
 use Rattle.bl_iface.specs.declared.iface.FnIface.{FnIface}
 use Rattle.bl_iface.specs.declared.iface.Iface.{Iface}
 use Rattle.bl_rename.specs.Renamings.{Numbers}
@@ -79,3 +80,8 @@ IsOwn stub client name = (function : ℕ) → Exports client name function → f
 -- the library exports a function under the interface's name
 abbrev pub IsExported : Tree → FnIface → Type 0
 IsExported library one = (function : ℕ) × Exports library one.name function
+
+-- where an export of the joined tree comes from: the whole tree exports a function under its name, or it is the stub's export, and the interface doesn't have its
+-- name
+abbrev pub HasOrigin : Iface → Tree → Tree → List ℕ → ℕ → Type 0
+HasOrigin iface stub whole name number = ((function : ℕ) × Exports whole name function) ⊎ (Exports stub name number × (is_named iface.functions name ≡ false))

@@ -10,7 +10,7 @@ ghost use Rattle.bl_rename.specs.Renamings.{Alike, Renames, start_by};
 ghost use Rattle.bl_whole.specs.JoinedTree.{client_numbers, joined_tree};
 ghost use Rattle.bl_apart.specs.Beside.{AreBeside};
 ghost use Rattle.bl_apart.specs.BesideStores.{Agree, AreGiven, Exports, IsOffered, Setting};
-ghost use Rattle.bl_apart.specs.LinkedApart.{AreLinked, AreUsers, IsExported, IsOwn, whole_numbers};
+ghost use Rattle.bl_apart.specs.LinkedApart.{AreLinked, AreUsers, HasOrigin, IsExported, IsOwn, whole_numbers};
 
 /// The same parts linked behind two others stand beside one another: where all that they import is known behind both, and means the same there.
 pub fn the_same_is_linked_beside()
@@ -60,4 +60,11 @@ pub fn exports_are_kept()
         → AreLinked stubs libraries users stub library client whole → AreUsers iface stub client library users
         → All (IsExported library) iface.functions → IsOwn stub client name
         → Exports whole name function → Exports (joined_tree client library iface) name ((whole_numbers stub client library).names.function function) }
+{}
+
+/// And the joined tree exports nothing else, but for functions of the stub's under names that the interface doesn't have.
+pub fn nothing_else_is_exported()
+    ensures { (iface : Iface) (stubs libraries users : Listed Part) (stub library client whole : Tree) (name : Listed ℕ) (number : ℕ)
+        → AreLinked stubs libraries users stub library client whole → AreUsers iface stub client library users
+        → Exports (joined_tree client library iface) name number → HasOrigin iface stub whole name number }
 {}

@@ -30,8 +30,8 @@ use Rattle.bl_rename.specs.Renamings.{Numbers, Renames, start_by}
 use Rattle.bl_rename.proofs.RenamedRuns.{outcome_here, outcome_there}
 use Rattle.bl_whole.specs.JoinedTree.{joined_tree}
 use Rattle.bl_whole.proofs.BareJoined.{runs_bare, runs_marked}
-use Rattle.bl_apart.specs.LinkedApart.{AreLinked, AreUsers, IsExported, IsGiven, IsOwn}
-use Rattle.bl_apart.proofs.JoinedExports.{export_kept}
+use Rattle.bl_apart.specs.LinkedApart.{AreLinked, AreUsers, HasOrigin, IsExported, IsGiven, IsOwn}
+use Rattle.bl_apart.proofs.JoinedExports.{export_kept, has_origin}
 use Rattle.bl_apart.proofs.JoinedLinks.{joins_as_linked}
 use Rattle.bl_build.specs.EntryStages.{function_named}
 use Rattle.bl_build.specs.InterfaceStages.{IsFileOf}
@@ -139,6 +139,11 @@ module _ (iface : Iface) (stubs libraries users : List LinkPart) (trees : Trees)
         alike = end_alike function;
       }
 
+  exports_come : (name : List ℕ) (number : ℕ) → function_named name program.exports ≡ Some number → HasOrigin iface trees.stub trees.whole name number
+  exports_come name number h =
+      has_origin iface stubs libraries users trees.stub trees.library trees.client trees.whole are joins name number
+      (stands_at joined.exports name number (sym (ap (λ (p : Program). function_named name p.exports) same ∙ same_exports name joined.exports) ∙ h))
+
 -- ---- the calls
 
 module _ (calls : Calls) (iface : Iface) (trees : Trees) (loaded : AreLoaded calls trees) (keep : KeepTo calls iface trees) where
@@ -183,10 +188,12 @@ module _ (calls : Calls) (iface : Iface) (trees : Trees) (loaded : AreLoaded cal
     ends name function stands own =
         ends_as_linked iface read.stubs read.libraries (linked_parts read.used) trees read.linked joins there.2.2.2.can_run program whole.can_run whole.same whole.both name function stands own
 
-pub joined_ends : (calls : Calls) (iface : Iface) (trees : Trees) (own program : Program) → AreKept calls → IsFileOf calls.iface.bytes iface → AreLoaded calls trees → KeepTo calls iface trees
-    → Image own calls.joined.bytes → bare program ≡ bare own
-    → (name : List ℕ) (function : ℕ) → value_named name trees.whole.exports ≡ Some function → IsOwn trees.stub trees.client name → EndsAsLinked trees iface program name function
-joined_ends calls iface trees own program kept file loaded keep image same =
+    pub origin : (name : List ℕ) (number : ℕ) → function_named name program.exports ≡ Some number → HasOrigin iface trees.stub trees.whole name number
+    origin = exports_come iface read.stubs read.libraries (linked_parts read.used) trees read.linked joins there.2.2.2.can_run program whole.can_run whole.same
+
+joined_is : (calls : Calls) (iface : Iface) (trees : Trees) (own program : Program) → AreKept calls → IsFileOf calls.iface.bytes iface → AreLoaded calls trees → Image own calls.joined.bytes
+    → bare program ≡ bare own → IsWhole trees.client trees.library iface program
+joined_is calls iface trees own program kept file loaded image same =
     let c = is_part (part_call Client calls.client_iface calls.client (clients calls)) calls.client_iface.bytes (contents_of (clients calls)) calls.client kept.client in
     let l = is_part (part_call Library calls.library_iface calls.library calls.libraries) calls.library_iface.bytes (contents_of calls.libraries) calls.library kept.library in
     let j = is_join (join_call calls) calls.iface.bytes calls.client.bytes calls.library.bytes calls.joined kept.joined in
@@ -196,4 +203,16 @@ joined_ends calls iface trees own program kept file loaded keep image same =
     let library_is : l.compiled.tree ≡ trees.library = loading_lawful.one_result (modules_in calls.libraries) l.compiled.tree trees.library l.compiled.loaded loaded.library in
     let whole : IsWhole trees.client trees.library iface own =
     subst (λ (t : Tree). IsWhole t trees.library iface own) client_is (subst (λ (t : Tree). IsWhole c.compiled.tree t iface own) library_is is) in
-    ends calls iface trees loaded keep program (record { can_run = whole.can_run; same = same ∙ whole.same; both = whole.both })
+    record { can_run = whole.can_run; same = same ∙ whole.same; both = whole.both }
+
+pub joined_ends : (calls : Calls) (iface : Iface) (trees : Trees) (own program : Program) → AreKept calls → IsFileOf calls.iface.bytes iface → AreLoaded calls trees → KeepTo calls iface trees
+    → Image own calls.joined.bytes → bare program ≡ bare own
+    → (name : List ℕ) (function : ℕ) → value_named name trees.whole.exports ≡ Some function → IsOwn trees.stub trees.client name → EndsAsLinked trees iface program name function
+joined_ends calls iface trees own program kept file loaded keep image same =
+    ends calls iface trees loaded keep program (joined_is calls iface trees own program kept file loaded image same)
+
+pub joined_origin : (calls : Calls) (iface : Iface) (trees : Trees) (own program : Program) → AreKept calls → IsFileOf calls.iface.bytes iface → AreLoaded calls trees → KeepTo calls iface trees
+    → Image own calls.joined.bytes → bare program ≡ bare own
+    → (name : List ℕ) (number : ℕ) → function_named name program.exports ≡ Some number → HasOrigin iface trees.stub trees.whole name number
+joined_origin calls iface trees own program kept file loaded keep image same =
+    origin calls iface trees loaded keep program (joined_is calls iface trees own program kept file loaded image same)

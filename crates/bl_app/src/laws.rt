@@ -11,14 +11,14 @@ ghost use Rattle.bl_counts.specs.RecordedRuns.{AreAdded, Recorded, all_executed}
 ghost use Rattle.bl_counts.specs.RunCounts.{bare};
 ghost use Rattle.bl_report.specs.Verdicts.{safe_line};
 ghost use Rattle.bl_build.specs.BuildStages.{AreCompiled, Built, command_count};
-ghost use Rattle.bl_build.specs.{LoadStages.AreShort, InterfaceStages.IsFileOf, InterfaceStages.Parted};
+ghost use Rattle.bl_build.specs.{EntryStages.function_named, LoadStages.AreShort, InterfaceStages.IsFileOf, InterfaceStages.Parted};
 ghost use Rattle.bl_build.specs.WeightStages.{AreBuilt, IsWeighed, IsWeighedBy};
 ghost use Rattle.bl_job.specs.{Causes.Causes, Causes.NoneRose, Refusals.Refusal, Worlds.World, declared.status.Status.Status};
 ghost use Rattle.bl_app.specs.Commands.{HasOnePlan, job_of, row_of, work_of};
 ghost use Rattle.bl_app.specs.CountedHardening.{AreExecutedLeast, AreTaken, IsImageOf};
 ghost use Rattle.bl_app.specs.{RunJob.RunDoes, HardenJob.HardenDoes, HardenJob.harden_job, InterpJob.InterpDoes, PartJob.PartMeans};
 ghost use Rattle.bl_build.specs.HardenStage.{Hardened, IsHardened, IsYes};
-ghost use Rattle.bl_apart.specs.LinkedApart.{IsOwn};
+ghost use Rattle.bl_apart.specs.LinkedApart.{HasOrigin, IsOwn};
 ghost use Rattle.bl_app.specs.JoinedModules.{AreKept, AreLoaded, Calls, EndsAsLinked, KeepTo, Trees};
 ghost use Rattle.bl_iface.specs.declared.iface.Iface.{Iface};
 ghost use Rattle.bl_job.specs.Jobs.{AreRead, FirstRefusal, IsLawful, IsTotal, Plan};
@@ -173,9 +173,12 @@ pub fn what_is_hardened_is_verified()
 /// and of its users; the library's are linked under the users' in place of the stub's. The users import of the stub nothing but functions of the interface, and
 /// two names of the interface that stand for one function of the stub stand for one of the library. Then what a module of the library or of the users exports
 /// under a name, but for a function of the stub that a user hands on, the joined image exports under it, and from each start both end alike, whichever of them
-/// ends, with any protects.
+/// ends, with any protects. The joined image exports nothing else, but for functions of the stub's under names that the interface doesn't have.
 pub fn joined_images_end_as_linked_modules()
-    ensures { (calls : Calls) (iface : Iface) (trees : Trees) (own program : Program) → AreKept calls → IsFileOf calls.iface.bytes iface → AreLoaded calls trees
+    ensures ends { (calls : Calls) (iface : Iface) (trees : Trees) (own program : Program) → AreKept calls → IsFileOf calls.iface.bytes iface → AreLoaded calls trees
         → KeepTo calls iface trees → Image own calls.joined.bytes → bare program ≡ bare own
         → (name : Listed ℕ) (function : ℕ) → value_named name trees.whole.exports ≡ Some function → IsOwn trees.stub trees.client name → EndsAsLinked trees iface program name function }
+    ensures nothing_else { (calls : Calls) (iface : Iface) (trees : Trees) (own program : Program) → AreKept calls → IsFileOf calls.iface.bytes iface → AreLoaded calls trees
+        → KeepTo calls iface trees → Image own calls.joined.bytes → bare program ≡ bare own
+        → (name : Listed ℕ) (number : ℕ) → function_named name program.exports ≡ Some number → HasOrigin iface trees.stub trees.whole name number }
 {}

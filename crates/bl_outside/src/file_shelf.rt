@@ -2,6 +2,7 @@
 ghost use Rattle.std.specs.Prelude.{◌≡◌, ◌+◌, ◌≤◌, [], None, Option, IfOk, OnOk, OnErr, length, ◌↔◌, Ok, Err, Some, IfSome};
 ghost use Rattle.std.specs.{Option.option_map, IoError.error_kind};
 ghost use Rattle.bl_outside.specs.{Opened.fitting, Opened.is_fitting, declared.shelf.ShelfError.TheVariants.Memory};
+ghost use Rattle.bl_outside.specs.Reading.{IsBehind, IsOpenedAt, IsRead};
 ghost use Rattle.bl_outside.specs.Shelf.{Files as KnownFiles, FetchFaults, KeepFaults, Gives, GivesPart, faults_after_fetch, faults_after_keep, most_asked};
 
 use crate::reading::{read_on, skip};
@@ -21,6 +22,7 @@ use std::rt::Files;
 /// see the faults.
 ///
 /// The file of the last `part` stays open, and the next one reads on where its name and its place fit. A refusal and a `keep` close it.
+/// Of a file that is open as many bytes were passed as its place says.
 #[derive(Drop)]
 pub struct FileShelf<'r, R: Files> {
     alloc: Global,
@@ -40,11 +42,15 @@ struct Opened<F> {
 }
 
 impl<'r, R: Files> Model for FileShelf<'r, R> {
+    ghost use Rattle.std.specs.Prelude.{IfSome};
+    ghost use Rattle.bl_outside.specs.Reading.{IsBehind};
     ghost use Rattle.bl_outside.specs.Shelf.{Faults};
 
     ghost Value = { Faults };
 
     ghost view = { λ s. record { reads = s.reads; writes = s.writes; last = s.last } };
+
+    ghost invariant = { λ s. IfSome s.opened (λ opened. IsBehind R.File.remaining opened.place opened.file) };
 }
 
 impl<'r, R: Files> FileShelf<'r, R> {
@@ -101,10 +107,11 @@ fn cause_of(error: Error) -> ShelfError
 
 /// The first bytes of a file, at most so many.
 fn read_file<R: Files>(alloc: Global, rt: &R, name: &str, most: u64) -> io::Result<Vec<u8>>
-    ensures { IfOk result (λ bytes. length bytes.items ≤ most) }
+    ensures bound { IfOk result (λ bytes. length bytes.items ≤ most) }
+    ensures front { IfOk result (λ bytes. IsRead R.File.remaining 0 most bytes.items) }
 {
-    let mut file = File::open(rt, name)?;
-    read_on(alloc, &mut file, most)
+    let mut opened = File::open(rt, name)?;
+    read_on(alloc, &mut opened, most)
 }
 
 /// Whether an open file can be read on at that place of that name.
@@ -131,7 +138,9 @@ fn fitting<F: Drop>(opened: Option<Opened<F>>, name: &str, from: u64) -> Option<
 }
 
 /// The file of that name, opened anew, behind the bytes before a place. None where it ends before.
-fn open_behind<R: Files>(rt: &R, name: &str, from: u64) -> io::Result<Option<R::File>> {
+fn open_behind<R: Files>(rt: &R, name: &str, from: u64) -> io::Result<Option<R::File>>
+    ensures { IfOk result (λ found. IsOpenedAt R.File.remaining from found) }
+{
     let mut file = File::open(rt, name)?;
     if skip(&mut file, from)? {
         Ok(Some(file))
@@ -148,7 +157,9 @@ fn open_at<R: Files>(
     name: &str,
     from: u64,
 ) -> io::Result<Option<R::File>>
-    ensures { IfSome (fitting opened name.now from) (λ file. result ≡ Ok (Some file)) }
+    requires { IfSome opened (λ opened. IsBehind R.File.remaining opened.place opened.file) }
+    ensures open { IfSome (fitting opened name.now from) (λ file. result ≡ Ok (Some file)) }
+    ensures at_place { IfOk result (λ found. IsOpenedAt R.File.remaining from found) }
 {
     match fitting(opened, name, from) {
         Some(file) => Ok(Some(file)),
@@ -172,7 +183,10 @@ fn read_part<R: Files>(
     from: u64,
     most: u64,
 ) -> io::Result<Piece<R::File>>
-    ensures { IfOk result (λ piece. length piece.bytes.items ≤ most) }
+    requires { IfSome opened (λ opened. IsBehind R.File.remaining opened.place opened.file) }
+    ensures bound { IfOk result (λ piece. length piece.bytes.items ≤ most) }
+    ensures read { IfOk result (λ piece. IsRead R.File.remaining from most piece.bytes.items) }
+    ensures at_place { IfOk result (λ piece. IfSome piece.file (IsBehind R.File.remaining (from + length piece.bytes.items))) }
 {
     let Some(mut file) = open_at(rt, opened, name, from)? else {
         return Ok(Piece {
@@ -211,6 +225,9 @@ impl<'r, R: Files + RandomSource> Shelf for FileShelf<'r, R> {
 
         // Each read fault counts one.
         ensures exact { self.new ≡ faults_after_fetch result self.old name.now }
+
+        // The bytes are the first ones of a file that was opened.
+        ensures read { IfOk result (λ bytes. IsRead R.File.remaining 0 (most + 1) bytes.items) }
     {
         let noted = Text::copy_of(self.alloc, name.as_bytes())?;
         match read_file(self.alloc, self.rt, name, most + 1) {
@@ -228,6 +245,9 @@ impl<'r, R: Files + RandomSource> Shelf for FileShelf<'r, R> {
 
         // Each read fault counts one.
         ensures exact { self.new ≡ faults_after_fetch result self.old name.now }
+
+        // The bytes are those of a file that was opened, from the place on.
+        ensures read { IfOk result (λ bytes. IsRead R.File.remaining from most bytes.items) }
     {
         let (alloc, rt) = (self.alloc, self.rt);
         let noted = Text::copy_of(alloc, name.as_bytes())?;

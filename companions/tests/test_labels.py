@@ -2,10 +2,11 @@
 from __future__ import annotations
 
 import hashlib
+import unittest
 
 from blade_companions.formats.labels import entries_of, is_changed, labelled, section_of, without_labels
 from blade_companions.formats.reading import Bad
-from blade_companions.formats.module import MAGIC, module_of
+from blade_companions.formats.module import MAGIC, Module, module_of
 
 # A module with one imported function (f 0: no parameter), a function `add` of two i32 to one (1), a memory (0) and globals 0 and 1;
 # the name section calls global 1 `key`.
@@ -40,32 +41,43 @@ REFUSED = [
 UNFIT = [b"", b"\0asm\2\0\0\0", MAGIC + b"\0\5\1", MAGIC + b"\1\x80", MODULE + section_of([])]
 
 
-def is_refused(data: bytes, words: str) -> bool:
-    try:
-        labelled(module_of(data, "m"), words.split())
-    except (Bad, IndexError):
-        return True
-    return False
+def module(data: bytes = MODULE) -> Module:
+    return module_of(data, "m")
 
 
-def selftest() -> str:
-    for words, spelled in CASES:
-        given = labelled(module_of(MODULE, "m"), words.split())
-        assert given == MODULE + bytes.fromhex(spelled) + (SUM if words else b""), (words, given[len(MODULE) :].hex(" "))
-        assert not is_changed(module_of(given, "m")), words
-        assert without_labels(module_of(given, "m")) == MODULE, words
-    for words in REFUSED:
-        assert is_refused(MODULE, words), words
-    for data in UNFIT:
-        assert is_refused(data, "secret-memory 0"), data
-    again = labelled(module_of(MODULE + section_of([("secret-memory", (0,))]), "m"), ["secret-global", "0"], True)
-    assert entries_of(module_of(again, "m")) == [("secret-global", (0,))]
-    # A section of that name's length with another name is none.
-    other = MODULE + bytes.fromhex("00 0D 0C 62 6C 61 64 65 2E 73 74 69 63 6B 73")
-    assert labelled(module_of(other, "m"), []) == other + section_of([])
-    for place in CHANGED:
-        changed = bytearray(labelled(module_of(MODULE, "m"), ["secret-memory", "0"]))
-        changed[place] ^= 1
-        assert is_changed(module_of(bytes(changed), "m")), place
-    assert not is_changed(module_of(MODULE + section_of([]), "m"))
-    return f"blade-label: {len(CASES)} sections, {len(REFUSED)} refused words, {len(UNFIT)} refused modules, 1 replaced"
+class Labels(unittest.TestCase):
+    def test_sections_written_by_hand(self) -> None:
+        for words, spelled in CASES:
+            with self.subTest(words):
+                given = labelled(module(), words.split())
+                self.assertEqual(given, MODULE + bytes.fromhex(spelled) + (SUM if words else b""))
+                self.assertFalse(is_changed(module(given)))
+                self.assertEqual(without_labels(module(given)), MODULE)
+
+    def test_words_that_are_refused(self) -> None:
+        for words in REFUSED:
+            with self.subTest(words), self.assertRaises(Bad):
+                labelled(module(), words.split())
+
+    def test_modules_that_are_refused(self) -> None:
+        for data in UNFIT:
+            with self.subTest(data), self.assertRaises(Bad):
+                labelled(module(data), ["secret-memory", "0"])
+
+    def test_a_section_is_replaced(self) -> None:
+        again = labelled(module(MODULE + section_of([("secret-memory", (0,))])), ["secret-global", "0"], True)
+        self.assertEqual(entries_of(module(again)), [("secret-global", (0,))])
+
+    def test_another_name_of_that_length_is_none(self) -> None:
+        other = MODULE + bytes.fromhex("00 0D 0C 62 6C 61 64 65 2E 73 74 69 63 6B 73")
+        self.assertEqual(labelled(module(other), []), other + section_of([]))
+
+    def test_a_module_that_was_changed_after_it_was_labelled(self) -> None:
+        for place in CHANGED:
+            with self.subTest(place):
+                changed = bytearray(labelled(module(), ["secret-memory", "0"]))
+                changed[place] ^= 1
+                self.assertTrue(is_changed(module(bytes(changed))))
+
+    def test_a_module_of_another_tool_has_no_sum(self) -> None:
+        self.assertFalse(is_changed(module(MODULE + section_of([("secret-memory", (0,))]))))

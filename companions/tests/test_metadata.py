@@ -1,6 +1,9 @@
 """Tests of annotations: what of its instruction each site holds back, worked out by hand. Licence: public domain (CC0)."""
 from __future__ import annotations
 
+import unittest
+from typing import Tuple
+
 from blade_companions.formats.image import SITES
 from blade_companions.c.lines import Spot
 from blade_companions.formats.lowering import Linked, Row
@@ -26,15 +29,17 @@ CASES = [
 ]
 
 
-def selftest() -> str:
-    sites = 0
-    for text, commands, wanted in CASES:
-        kinds = tuple(commands.split())
-        row = Row(100, 0, text, kinds)
-        given = []
-        for at, kind in enumerate(kinds):
-            held = held_at(Spot(0, Linked(None, 0), row), 100 + at) if kind in SITES else None
-            given.append("-" if kind not in SITES else "." if held is None else str(held.what) if not held.what else f"{held.what}:{held.number}")
-            sites += kind in SITES
-        assert given == wanted.split(), (text, commands, given, wanted)
-    return f"blade-explain --annotate: {sites} sites of {len(CASES)} shapes of instructions by hand"
+def held(text: str, kinds: Tuple[str, ...], at: int) -> str:
+    """What the command at a place of an instruction holds back, as CASES spell it."""
+    if kinds[at] not in SITES:
+        return "-"
+    found = held_at(Spot(0, Linked(None, 0), Row(100, 0, text, kinds)), 100 + at)
+    return "." if found is None else f"{found.what}:{found.number}" if found.what else str(found.what)
+
+
+class Sites(unittest.TestCase):
+    def test_sites_of_each_shape_of_instructions(self) -> None:
+        for text, commands, wanted in CASES:
+            kinds = tuple(commands.split())
+            with self.subTest(text, commands=commands):
+                self.assertEqual([held(text, kinds, at) for at in range(len(kinds))], wanted.split())

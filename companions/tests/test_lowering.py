@@ -1,6 +1,9 @@
 """Tests of positions: modules counted by hand. Licence: public domain (CC0)."""
 from __future__ import annotations
 
+import unittest
+from typing import Tuple
+
 from blade_companions.formats.image import SITES, TRAPS
 from blade_companions.formats.lowering import lower
 from blade_companions.formats.module import MAGIC, module_of
@@ -18,14 +21,14 @@ CASES = [
 ]
 
 
-def counts_of(text: str):
+def counts_of(text: str) -> Tuple[int, int, int]:
     functions = lower([module_of(MAGIC + bytes.fromhex(text), "m")])
-    kinds = [kind for linked in functions for row in linked.rows for kind in row.kinds]
+    kinds = [kind for function in functions for row in function.rows for kind in row.kinds]
     return len(functions), TRAPS + len(kinds), sum(kind in SITES for kind in kinds)
 
 
-def selftest() -> str:
-    for text, wanted in CASES:
-        given = counts_of(text)
-        assert given == wanted, (text, given, wanted)
-    return f"blade-explain: {len(CASES)} modules counted by hand"
+class Lowering(unittest.TestCase):
+    def test_modules_counted_by_hand(self) -> None:
+        for text, wanted in CASES:
+            with self.subTest(text):
+                self.assertEqual(counts_of(text), wanted)

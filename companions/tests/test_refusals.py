@@ -1,8 +1,11 @@
 """Tests of what is said of refusals, on modules that are written by hand. Licence: public domain (CC0)."""
 from __future__ import annotations
 
+import unittest
+
 from blade_companions.c.refusals import about_symbols, refusal
-from blade_companions.formats.module import MAGIC, module_of
+from blade_companions.formats.encoding import section, sized, vector
+from blade_companions.formats.module import MAGIC, Module, module_of
 
 # Function types () -> () and (f32) -> (); a function 0 imported as a.b; then one function of each kind of body.
 TYPES, IMPORTS = "01 08 02 60 00 00 60 01 7D 00", "02 07 01 01 61 01 62 00 00"
@@ -22,20 +25,25 @@ CASES = [
 SYMBOLS = [("__multi3", "__int128"), ("__udivti3", "__int128"), ("__addsf3", "floats"), ("malloc", "wasi-libc")]
 
 
-def module(body: str, start: str = ""):
-    code = bytes.fromhex(body)
-    section = bytes([1, len(code)]) + code
-    parts = [TYPES, IMPORTS, "03 02 01 00", start]
-    return module_of(MAGIC + b"".join(map(bytes.fromhex, parts)) + bytes([10, len(section)]) + section, "m")
+def module(body: str, start: str = "") -> Module:
+    code = sized(bytes.fromhex(body))
+    return module_of(MAGIC + b"".join(map(bytes.fromhex, [TYPES, IMPORTS, "03 02 01 00", start])) + section(10, vector([code])), "m")
 
 
-def selftest() -> str:
-    for body, said, function, place, word in CASES:
-        made = module(body)
-        told = refusal(made, said)
-        at = told.place - made.bodies[0][0] if told.place >= 0 else -1
-        assert (told.function, at) == (function, place) and word in told.text, (body, told, at)
-    assert "[blade-start]" in refusal(module("00 0B", START), "unsupported: m").text
-    for name, word in SYMBOLS:
-        assert word in about_symbols([name])[0], name
-    return f"blade-cc: {len(CASES) + 1} refusals, {len(SYMBOLS)} missing names"
+class Refusals(unittest.TestCase):
+    def test_the_place_and_the_words_of_each(self) -> None:
+        for body, said, function, place, word in CASES:
+            with self.subTest(said, body=body):
+                made = module(body)
+                told = refusal(made, said)
+                at = told.place - made.bodies[0][0] if told.place >= 0 else -1
+                self.assertEqual((told.function, at), (function, place))
+                self.assertIn(word, told.text)
+
+    def test_a_start_function(self) -> None:
+        self.assertIn("[blade-start]", refusal(module("00 0B", START), "unsupported: m").text)
+
+    def test_names_that_the_linker_does_not_find(self) -> None:
+        for name, word in SYMBOLS:
+            with self.subTest(name):
+                self.assertIn(word, about_symbols([name])[0])

@@ -1,5 +1,5 @@
-"""Tests of blade-witness: each leak that is known here is found and replayed by the program, and none where the code is constant-time.
-Licence: public domain (CC0)."""
+"""Searches of blade-witness, for tools/checks/examples: each leak that is known here is found and replayed by the program, and none where the code is
+constant-time. Licence: public domain (CC0)."""
 from __future__ import annotations
 
 import os
@@ -8,53 +8,11 @@ import shlex
 import subprocess
 from typing import List, NamedTuple, Tuple
 
-from blade_companions.witnesses.directives import last_of
-from blade_companions.formats.image import Command, Function, Image, Memory, Operand
-from blade_companions.witnesses.pairs import Range, Secret, joined, ranges_of, what_changes
-from blade_companions.formats.reading import Bad
-from blade_companions.formats.running import Start
+from harness import COMPANIONS, EXAMPLES, ran
 
-TOP = os.path.dirname(os.path.dirname(os.path.dirname(os.path.realpath(__file__))))
-EXAMPLES, COMPANIONS = f"{TOP}/examples", f"{TOP}/companions"
 NOTHING, WITNESSED, USAGE, UNREAD, SHOWN = range(5)
 LIMIT = "600"  # seconds of a search that has to end by itself, on a machine that does other things too
 HUNT = "6"  # seconds of one that has to find nothing
-
-
-# ---- without the program
-
-
-def tiny() -> Image:
-    """A function of a public and a secret parameter, which tests the public one and, where it isn't 0, the secret one; a secret memory."""
-    p, q = Operand(True, 1), Operand(True, 2)
-    commands = [Command("Trap")] * 7 + [Command("Test", (p,), (), (1,), targets=(8, 9)), Command("Test", (q,), (), (2,), targets=(9, 9)), Command("Ret")]
-    function = Function([False, True], 0, 2, 3, 1, 7, [0x7F, 0x7E])
-    return Image([], [], [Memory(1, 1, True, [(0, bytes(range(16)))])], [function], {0: "m/f"}, {"m/f": 0}, [], {}, commands)
-
-
-def selftest() -> str:
-    image, start = tiny(), Start([5, 1 << 40], [(0, 4, b"\x10\x11"), (0, 5, b"\x22\x23"), (0, 40, b"\x33")])
-    assert list(joined(3, {7, 9, 8, 1})) == [Range(3, 1, 1), Range(3, 7, 3)]
-    ranges = what_changes(image, 0, start, [], [Range(0, 6, 1)])
-    # The secret parameter, of 8 bytes; what the lines give, those that meet as one; without what is kept.
-    assert ranges == [Range(None, 1, 8), Range(0, 4, 2), Range(0, 40, 1)], ranges
-    secret = Secret(image, start, ranges)
-    assert secret.first == (1 << 40).to_bytes(8, "little") + b"\x10\x22\x33"
-    assert secret.text(bytes(8) + b"\xaa\xbb\xcc") == "arg 5\narg 0\nmemory 0 5 2223\nmemory 0 4 aabb\nmemory 0 40 cc\n"
-    assert [secret.name(place) for place in (7, 8, 10)] == ["parameter 1", "memory 0, byte 4", "memory 0, byte 40"]
-    assert what_changes(image, 0, start, [Range(0, 0, 2)], []) == [Range(None, 1, 8), Range(0, 0, 2)]
-    for words in (["0:1"], ["0:1:0"], ["0:-1:2"], ["x:1:2"]):
-        try:
-            assert not ranges_of(words)
-        except Bad:
-            continue
-    # A wrong guess at 7 leads back to 9, and with it what was fetched goes.
-    position, entries = last_of(image, 0, ["fetch 1", "fetch 0", "exec 1", "exec 0", "fetch"], ["none", "none", "none", "rollback 0"])
-    assert (position, [entry.position for entry in entries], entries[0].guess) == (9, [7], None)
-    return "witness_test: what changes, starts, and where a directive stands"
-
-
-# ---- with the program
 
 
 class Leak(NamedTuple):
@@ -196,7 +154,7 @@ def witnesses(check) -> None:
     make_images(check)
     for number, leak in enumerate(LEAKS):
         how = "witnessed, and replayed" if leak.status == WITNESSED else "shown by whole runs"
-        check.say(f"{name_of(leak)}: {how}", fault_of(check, number, leak, "--seconds", LIMIT))
+        check.fault(f"{name_of(leak)}: {how}", fault_of(check, number, leak, "--seconds", LIMIT))
     same(check)
     by_hand(check)
     explained(check)
@@ -214,7 +172,7 @@ def same(check) -> None:
             os.sched_setaffinity(0, kept)
             files = [open(f"{check.folder}/{out}.{end}", "rb").read() for end in ("trace", "a.start", "b.start")]
             told.append((status, text.replace(f"/{out}.", "/."), files))
-        check.say(f"{name_of(leak)}: one processor finds what all find", "" if told[0] == told[1] else f"{told}")
+        check.say(f"{name_of(leak)}: one processor finds what all find", told[0] == told[1], f"{told}")
 
 
 def by_hand(check) -> None:
@@ -223,13 +181,11 @@ def by_hand(check) -> None:
     text = searched(check, LEAKS[0], "found0")[1]
     told = re.search(r"one run shows `read (\d+) .*`, the other `read (\d+) ", text)
     wanted = [1024 + (index & 15) for index in indices]
-    check.say("lookup: the addresses are those of the indices", "" if told and [int(told[1]), int(told[2])] == wanted and indices[0] == 3 else text)
+    check.say("lookup: the addresses are those of the indices", told and [int(told[1]), int(told[2])] == wanted and indices[0] == 3, text)
 
 
 def explain(check, *words: str) -> Tuple[int, str]:
-    done = subprocess.run([f"{COMPANIONS}/blade-explain", f"{check.folder}/lookup.img", f"{EXAMPLES}/lookup.wasm", "--blade", check.program, *words],
-                          capture_output=True, text=True, check=False)
-    return done.returncode, done.stdout + done.stderr
+    return ran(f"{COMPANIONS}/blade-explain", f"{check.folder}/lookup.img", f"{EXAMPLES}/lookup.wasm", "--blade", check.program, *words)
 
 
 def explained(check) -> None:
@@ -241,16 +197,16 @@ def explained(check) -> None:
     shown = all(one in text for one in ("constant-time no, leak witnessed: 1 of", "leak witnessed: address of a load", "reaches 1 of 1 refused ends"))
     texts = [open(path, encoding="utf-8").read() for path in written]
     shown = shown and "leak witnessed" in texts[0] and '"level": "error"' in texts[1] and '"witnessed": true' in texts[2]
-    check.say("blade-explain shows a witness, in its text, page, SARIF and JSON", "" if status == 0 and shown else text)
+    check.say("blade-explain shows a witness, in its text, page, SARIF and JSON", status == 0 and shown, text)
     text = explain(check, "--start", "lookup/lookup", f"{EXAMPLES}/three.start")[1]
-    check.say("blade-explain --start: reached and met", "" if "reached 1, met 1: " in text and "likely" not in text else text)
+    check.say("blade-explain --start: reached and met", "reached 1, met 1: " in text and "likely" not in text, text)
     for end in ("trace", "a.start", "again"):
         with open(f"{out}.{end}", "rb") as file, open(f"{check.folder}/wrong.{end}", "wb") as other:
             other.write(file.read())
     with open(f"{check.folder}/wrong.b.start", "w", encoding="ascii") as file:
         file.write("arg 3\n")
     status, text = explain(check, "--witness", f"{check.folder}/wrong")
-    check.say("blade-explain: two equal starts are no witness", "" if status == UNREAD and "says nothing of a leak" in text else f"{status} {text}")
+    check.say("blade-explain: two equal starts are no witness", status == UNREAD and "says nothing of a leak" in text, f"{status} {text}")
 
 
 def refused(check) -> None:
@@ -258,13 +214,13 @@ def refused(check) -> None:
     lookup = LEAKS[0]
     for words, status, told in ((["--keep", "0:x:1"], UNREAD, "M:OFFSET:SIZE"), (["--secret", "0:16:4"], UNREAD, "isn't declared secret"), (["--what"], USAGE, "")):
         done = searched(check, lookup, "refused", *words)
-        check.say(f"blade-witness {' '.join(words)}", "" if done[0] == status and told in done[1] else f"{done}")
+        check.say(f"blade-witness {' '.join(words)}", done[0] == status and told in done[1], f"{done}")
     done = searched(check, QUIET[1], "refused", "--seconds", "0")
-    check.say("blade-witness --seconds 0", "" if done[0] == NOTHING and "stopped after 0 seconds" in done[1] else f"{done}")
+    check.say("blade-witness --seconds 0", done[0] == NOTHING and "stopped after 0 seconds" in done[1], f"{done}")
     for leak in (Leak("guesses", "guesses/address", "arg 3\narg 16\n"), Leak("list", "list/list", "arg 2048\n"),
                  Leak("sample", "sample/sample", "arg 2048\narg 1\narg 4096\n")):
         done = searched(check, leak, "refused")
-        check.say(f"{name_of(leak)}: nothing may change", "" if done[0] == USAGE and "nothing may change" in done[1] else f"{done}")
+        check.say(f"{name_of(leak)}: nothing may change", done[0] == USAGE and "nothing may change" in done[1], f"{done}")
 
 
 # The worked routines: the folder and the function of each.
@@ -276,16 +232,16 @@ def quiet(check) -> None:
     """Nothing is found where the code is constant-time; where the verdict is yes a witness would be a hole in a theorem."""
     for number, leak in enumerate(QUIET, 100):
         leak = leak._replace(status=NOTHING)
-        check.say(f"{name_of(leak)}: nothing found", fault_of(check, number, leak, "--seconds", HUNT))
+        check.fault(f"{name_of(leak)}: nothing found", fault_of(check, number, leak, "--seconds", HUNT))
     for name, export in ROUTINES.items():
         for way in ("one", "ledger", "vault"):
             source = export.split("/")[0]
             image = f"{name}/{way}/{source}/{source}"
             if not os.path.exists(f"{check.folder}/{image}.img"):
-                if name != "x25519" or check.everything:
-                    check.say(f"{name} {way}: nothing found", "there is no image: the other checks make it")
+                if name != "x25519" or check.options.all:
+                    check.fault(f"{name} {way}: nothing found", "there is no image: the other checks make it")
                 continue
             with open(f"{check.folder}/{name}/{way}/{source}/{name}.start", encoding="ascii") as file:
                 leak = Leak(image, export, file.read(), status=NOTHING)
             status, text = searched(check, leak, f"{name}.{way}", "--seconds", HUNT)
-            check.say(f"{name} {way}: nothing found", "" if status == NOTHING else text)
+            check.say(f"{name} {way}: nothing found", status == NOTHING, text)
