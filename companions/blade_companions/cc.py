@@ -26,9 +26,11 @@ Status: 0 constant-time; 1 not; 2 usage; 3 clang or the linker failed; 4 a tool 
 6 blade refuses the module, or a run for --counts fails; 7 two tools don't agree."""
 from __future__ import annotations
 
+import fcntl
 import os
 import shlex
 import sys
+import tempfile
 from collections import Counter
 from typing import Dict, List, Optional, Sequence, Tuple
 
@@ -68,6 +70,7 @@ class Driver:
         self.program = program(asked.blade)
         self.module = asked.name or asked.base
         out = asked.out or f"{self.module}.blade/"
+        out = f"./{out}" if out.startswith("-") else out  # no tool takes it for a word
         # A linker's output is a file, and so is what has an ending.
         is_file = not out.endswith("/") and not os.path.isdir(out) and bool(os.path.splitext(out)[1] or not asked.sources)
         self.file = out if is_file else ""
@@ -87,13 +90,53 @@ class Driver:
     def clear(self) -> None:
         """What an earlier call wrote says nothing of this one, and make would take it for made."""
         reports = [f"{self.module}.sarif", "report.txt", "verify.txt", "problems.json"]
+        self.keep_old()
         for path in [f"{self.folder}/{name}" for name in self.made() + reports] + [f"{self.aside}/{name}" for name in self.made()] + [self.file]:
-            if path and os.path.exists(path):
+            if path and os.path.lexists(path):
                 os.remove(path)
         for folder in (f"{self.folder}/build", self.aside):
+            for one in [folder] + [f"{folder}/{name}" for name in (os.listdir(folder) if os.path.isdir(folder) else ())]:
+                if os.path.islink(one):
+                    os.remove(one)
             os.makedirs(folder, exist_ok=True)
+        self.keep_old()
+
+    def keep_old(self) -> None:
+        """Where the folder is make's target it stays older than all that it is made of until all is done: a call may be killed at any time."""
+        if not self.file:
+            os.utime(self.folder, (0, 0))
+
+    def enter(self) -> None:
+        """Makes the folder, older than anything from the first, and waits for another call that works there."""
+        if not os.path.isdir(self.folder):
+            above = os.path.dirname(os.path.abspath(self.folder))
+            os.makedirs(above, exist_ok=True)
+            with tempfile.TemporaryDirectory(prefix=".blade-", dir=above) as room:
+                os.mkdir(f"{room}/made", 0o777)
+                for name in ("build", "refused"):
+                    os.mkdir(f"{room}/made/{name}")
+                os.utime(f"{room}/made", (0, 0))
+                try:
+                    os.rename(f"{room}/made", self.folder)
+                except OSError:
+                    if not os.path.isdir(self.folder):
+                        raise
+        self.lock = os.open(self.folder, os.O_RDONLY)
+        try:
+            fcntl.flock(self.lock, fcntl.LOCK_EX | fcntl.LOCK_NB)
+        except BlockingIOError:
+            say(f"blade-cc: note: another blade-cc is at work in {self.folder}; this one waits for it", sys.stderr)
+            fcntl.flock(self.lock, fcntl.LOCK_EX)
+
+    def put(self, name: str, data: bytes) -> None:
+        """Writes a report: whole, and without a time at which the folder looks made."""
+        beside = f"{self.folder}/build/{name}"
+        written_to(beside, data)
+        os.replace(beside, f"{self.folder}/{name}")
+        self.keep_old()
 
     def all(self) -> int:
+        self.enter()
         self.clear()
         for name in ["clang"] * bool(self.asked.sources) + ["wasm-ld", "wasm-opt", "llvm-symbolizer"]:
             found(name)
@@ -141,10 +184,10 @@ class Driver:
     def harden(self, modules: List[str]) -> Tuple[str, str]:
         """The report, and what verify says."""
         image, certificate = f"{self.aside}/{self.module}.img", f"{self.aside}/{self.module}.json"
-        done = self.blade("harden", image, certificate, *modules, *self.counts(modules), to=f"{self.folder}/report.txt")
+        done = self.blade("harden", image, certificate, *modules, *self.counts(modules), to=f"{self.folder}/build/report.txt")
         if done.status:
             raise Stop(REFUSED, *self.refused(done, modules[-1]))
-        verified = self.blade("verify", image, certificate, to=f"{self.folder}/verify.txt")
+        verified = self.blade("verify", image, certificate, to=f"{self.folder}/build/verify.txt")
         if verified.status or verified.out.splitlines()[:2] != ["certificate yes", "stable yes"]:
             raise Stop(DISAGREE, f"blade-cc: error: verify doesn't agree with harden: {verified.out.strip() or verified.status}")
         return done.out, verified.out
@@ -211,6 +254,8 @@ class Driver:
         is_yes = verified.endswith("safe yes\n") and report.endswith("constant-time yes\n")
         if is_yes and not self.asked.unlabelled and not is_labelled(modules):
             raise Stop(LABELS, f"blade-cc: error: {self.module}: {NOTHING} [blade-unlabelled]")
+        self.put("report.txt", report.encode())
+        self.put("verify.txt", verified.encode())
         is_kept = is_yes or self.asked.no_fail
         place = self.folder if is_kept else self.aside
         self.move(self.aside, place)
@@ -226,15 +271,16 @@ class Driver:
         if is_kept and self.file:
             written_to(self.file, read_file(modules[-1], "module"))
         protects = next(line for line in report.splitlines() if line.startswith("protects "))
-        print(f"{self.module}: {text.verdict_text(told.found, (), evidence)}; {protects}; {text.declared_text(told.found).partition('. So')[0]}")
+        say(f"{self.module}: {text.verdict_text(told.found, (), evidence)}; {protects}; {text.declared_text(told.found).partition('. So')[0]}")
         for line in summary(evidence, lines) if evidence else ():
-            print(f"{self.module}: {line}")
+            say(f"{self.module}: {line}")
         return YES if is_kept else NO
 
     def move(self, of: str, to: str) -> None:
         for name in self.made() if of != to else []:
             self.runner.show(["mv", f"{of}/{name}", f"{to}/{name}"])
             os.replace(f"{of}/{name}", f"{to}/{name}")
+        self.keep_old()
 
     def explained(self, modules: List[str], made: str, report: str) -> Tuple[diagnostics.Told, Lines, List[str]]:
         """What is to be told of an image; and where that isn't what the program says."""
@@ -249,9 +295,9 @@ class Driver:
         """The places: as text, as JSON and as SARIF."""
         problems, log = f"{self.folder}/problems.json", f"{self.folder}/{self.module}.sarif"
         self.runner.show([os.path.join(HERE, "blade-explain"), f"{made}.img", *modules, "--certificate", f"{made}.json", "--report",
-                          f"{self.folder}/report.txt", "--lines", "--json", problems, "--sarif", log, *self.explained_by])
-        written_to(problems, sarif.as_json(told, f"{made}.img", modules).encode())
-        written_to(log, sarif.as_sarif(told, f"{made}.img", modules, lines, os.getcwd(), sarif.version()).encode())
+                          f"{self.folder}/build/report.txt", "--lines", "--json", problems, "--sarif", log, *self.explained_by])
+        self.put(os.path.basename(problems), sarif.as_json(told, f"{made}.img", modules).encode())
+        self.put(os.path.basename(log), sarif.as_sarif(told, f"{made}.img", modules, lines, os.getcwd(), sarif.version()).encode())
         for line in diagnostics.as_text(told, shown(f"{made}.img"), self.asked.limit, lines):
             say(line, sys.stderr)
 
@@ -293,10 +339,10 @@ def line_of(module: Module, place: int):
     return lines.known.get((module.path, place - module.code), chosen([]))
 
 
-def mark(driver: Optional[Driver]) -> None:
+def mark(driver: Optional[Driver], is_made: bool) -> None:
     """Where a folder is make's target, one that isn't made is older than all that it is made of."""
     if driver and not driver.file and os.path.isdir(driver.folder):
-        os.utime(driver.folder, (0, 0))
+        os.utime(driver.folder, None if is_made else (0, 0))
 
 
 def write_errors(driver: Optional[Driver], stop: Stop) -> None:
@@ -326,8 +372,7 @@ def status_of(words: Sequence[str], usage: str) -> int:
             say(line, sys.stderr)
         status = stop.status
     finally:
-        if status:
-            mark(driver)
+        mark(driver, not status)
     return status
 
 

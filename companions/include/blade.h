@@ -32,9 +32,15 @@
     BLADE_FUNCTION_(function, "secret-param", BLADE_SPELLED_(function), BLADE_SPELLED_(parameter))
 #define BLADE_PUBLIC_RESULT(function) BLADE_FUNCTION_(function, "public-result", BLADE_SPELLED_(function), "0")
 #define BLADE_SECRET_MEMORY BLADE_DECLARE_("secret-memory", "0", "-")
+/* Masks that are 0, in globals of the module whose first values are secret. What is read of a volatile variable isn't known to any compiler. */
+extern volatile unsigned __attribute__((address_space(1))) blade_secret_mask_32;
+extern volatile unsigned long long __attribute__((address_space(1))) blade_secret_mask_64;
+#define BLADE_SECRET(value) \
+    ((__typeof__(value))((value) ^ (__typeof__(value))(sizeof(value) > 4 ? (unsigned long long)blade_secret_mask_64 : blade_secret_mask_32)))
 #else
 #define BLADE_SECRET_PARAM(function, parameter) struct blade_labels_
 #define BLADE_PUBLIC_RESULT(function) struct blade_labels_
 #define BLADE_SECRET_MEMORY struct blade_labels_
+#define BLADE_SECRET(value) (value)
 #endif
 #endif

@@ -831,7 +831,8 @@ CASES = [
             "unsigned f(unsigned p, unsigned k) { return k ^ p; }\n"
             "unsigned g(unsigned i, unsigned j) { return table[f(j, i) & 255]; }\n")},
         command=(
-            "blade-cc --no-fail a.c -o out/ > /dev/null 2>&1; wasm-opt -O2 out/a.wasm -o x.wasm && rm -r out && "
+            "blade-cc --no-fail --public-callers=f a.c -o out/ > /dev/null 2>&1; wasm-opt -O2 out/a.wasm -o x.wasm && "
+            "rm -r out && "
             "mkdir out && cp x.wasm out/a.wasm && $BLADE harden out/a.img out/a.json out/a.wasm && "
             "blade-explain out/a.img out/a.wasm"),
         starts=("arg 3\narg 1\n", "arg 9\narg 1\n")),

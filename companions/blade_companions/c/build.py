@@ -22,6 +22,7 @@ from ..formats.module import FUNCTION, Module, read_module
 STACK = ["--stack-first", "-z", "stack-size=65536"]
 PAGE = 65536
 FIRST_PAGES = 3  # one for the stack, one for data, one for the buffers of calls
+MASKS = "blade_secret_mask_"  # what BLADE_SECRET reads
 LIBRARY = ("memcpy", "memmove", "memset", "memcmp")
 WASI_LIBRARY = f"{WASI}/lib/wasm32-wasi/libc.a"
 
@@ -68,14 +69,16 @@ class Builder:
                 self.assembled.add(os.path.realpath(made[-1]))
         return made + self.asked.objects
 
-    def library(self) -> List[str]:
-        """What stands in no file that was given: the four functions of libc.c, which give way to the sources' own; wasi-libc and clang's own
-        functions, where they are installed. memcmp of wasi-libc stops at the first difference, so that of libc.c goes first."""
+    def library(self, missing: Set[str]) -> List[str]:
+        """What stands in no file that was given: the masks of BLADE_SECRET; the four functions of libc.c, which give way to the sources' own; wasi-libc and
+        clang's own functions, where they are installed. memcmp of wasi-libc stops at the first difference, so that of libc.c goes first."""
         source, to = f"{self.folder}/blade-libc.c", f"{self.folder}/blade-libc.o"
-        written_to(source, ("".join(f"#pragma weak {name}\n" for name in LIBRARY) + f'#include "{INCLUDE}/libc.c"\n').encode())
+        written_to(source, ("".join(f"#pragma weak {name}\n" for name in LIBRARY) + f'#include "{INCLUDE}/libc.c"\n#include "{INCLUDE}/masks.c"\n').encode())
         done = self.runner.run([found("clang"), *TARGET, "-O2", "-fno-builtin", "-fvisibility=hidden", "-c", "-o", to, source])
         if done.status:
             raise Stop(BUILD, done.errors)
+        if all(name.startswith(MASKS) for name in missing):
+            return [to]
         own = subprocess.run([found("clang"), "--target=wasm32-wasi", "-print-libgcc-file-name"], capture_output=True, text=True, check=False).stdout.strip()
         return [to] + [one for one in (WASI_LIBRARY, own) if os.path.exists(one)]
 
@@ -108,7 +111,7 @@ class Builder:
             missing = set(re.findall(r"undefined symbol: (\S+)", done.errors))
             needed = re.search(r"memory too small, (\d+) bytes needed", done.errors)
             if done.status and missing and not extra:
-                extra = self.library()
+                extra = self.library(missing)
             elif done.status and needed and not self.asked.pages and pages == least:
                 pages = -(-int(needed[1]) // PAGE) + 1
             elif done.status:
@@ -148,6 +151,8 @@ class Builder:
 
     def split(self, name: str) -> Module:
         linked, made = f"{self.folder}/linked.wasm", f"{self.folder}/{name}.wasm"
+        if os.path.lexists(made):
+            os.remove(made)  # wasm-opt would follow a link
         done = self.runner.run([found("wasm-opt"), "-g", "--untee", "--ssa", linked, "-o", made])
         if done.status:
             why = ": it can't read DWARF 5, so compile by blade-cc -c, or with -gdwarf-4" if has_dwarf_5(linked) else ""

@@ -5,16 +5,17 @@ from __future__ import annotations
 from collections import defaultdict
 from typing import Dict, Iterable, List, NamedTuple, Sequence, Set, Tuple
 
-from ..formats.image import SELECT, Command, Image
+from ..formats.image import Command, Image
 from ..formats.instructions import CALL, CALL_INDIRECT, read_instruction, read_locals
 from ..formats.labels import Entry
 from ..formats.lowering import Linked
 from ..formats.module import FUNCTION, Module
+from ..formats.operators import MOVE, SELECT
 from ..formats.reading import Reader
 from ..verdict.flow import declared_origins, find
 from .units import starts_of, units_of
 
-MOVE = 0x00
+
 
 
 class Given(NamedTuple):

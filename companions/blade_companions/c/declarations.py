@@ -14,9 +14,10 @@ from .paths import shown
 from .units import Resolved
 from .units import Resolver as ByUnits
 from ..formats.reading import Bad
-from ..formats.module import FUNCTION, FuncType, Module
+from ..formats.module import FUNCTION, GLOBAL, FuncType, Module
 
 NAME = "blade.secrets"
+MASK = re.compile(r"blade_secret_mask_(?:32|64)(?:[._]\d+)?")
 INCLUDED = "<built-in>"  # what clang calls the unit in a file that is named by -include: that goes to all units
 NOTHING = "nothing is declared secret: BLADE_SECRET_PARAM or BLADE_SECRET_MEMORY of blade.h, or words; --unlabelled where that is meant"
 KEEP = "so keep it by __attribute__((noinline)), or declare the caller's parameter"
@@ -218,6 +219,12 @@ def of_source(module: Module, answered: Set[Named]) -> Labelled:
     return Labelled(found, errors, [], tuple(one.name for one in lines if KINDS[one.kind].names[0] == "function"))
 
 
+def masks_of(module: Module) -> List[Entry]:
+    """The masks of BLADE_SECRET: globals whose first values are secret."""
+    imported = len(module.imported(GLOBAL))
+    return [("secret-global", (index,)) for index, name in sorted(module.global_names.items()) if MASK.fullmatch(name) and index >= imported]
+
+
 def named_by(one: Declared) -> Named:
     return Named(one.kind, one.name, one.which, one.where)
 
@@ -266,7 +273,11 @@ def labels_of(module: Module, words: Sequence[str] = (), linked: Optional[Module
     source = of_source(module, known.answered)
     errors, others = source.errors, source.others
     rest = joined(without(words, known.answered), known.words)
-    by_source = known.entries + [one for one in source.entries if one[0] not in [entry for entry, _ in known.entries]]
+    masks = [(entry, "") for entry in masks_of(module)]
+    if known.marked and not masks:
+        errors.append(f"blade-cc: error: {shown(known.marked[0])} uses BLADE_SECRET, and the module doesn't have its masks by name: link without -s, and drop "
+                      "what nothing uses [blade-label]")
+    by_source = known.entries + masks + [one for one in source.entries if one[0] not in [entry for entry, _ in known.entries]]
     declared_before = [entry for entry, _ in by_source]
     by_words = [entry for entry in entries_in(module, numbered(module, rest)) if entry not in declared_before]
     check(module, declared_before + by_words)

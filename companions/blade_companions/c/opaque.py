@@ -258,6 +258,8 @@ def record(unit: Unit) -> List[str]:
     """The unit's part of the section."""
     lines = [f'module asm ".section .custom_section.{NAME},\\22\\22,@"', row("unit", unit.path, os.getcwd())]
     lines += [row("sees", *named) for named in unit.known] + [row("words", *unit.others)] * bool(unit.others)
+    if any("@blade_secret_mask_" in line for one in unit.text.defined for line in unit.text.lines[one.start : one.end]):
+        lines.append(row("marks"))
     for one in unit.text.defined:
         sort = "local" if one.is_local else "inline" if one.linkage in INLINE_LINKAGE else "one"
         lines.append(row("has", one.symbol, one.name, one.place, sort, "kept" if one.symbol in unit.functions else "plain"))

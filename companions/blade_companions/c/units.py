@@ -46,6 +46,7 @@ class Unit:
     folder: str
     sees: List[Named] = field(default_factory=list)
     words: List[str] = field(default_factory=list)  # those of --label that name no function
+    has_marks: bool = False  # whether it uses BLADE_SECRET
     has: List[Has] = field(default_factory=list)
     labels: List[Label] = field(default_factory=list)
     calls: List[Tuple[str, int]] = field(default_factory=list)  # a labelled function, and the place in the code of one that leads to it
@@ -77,6 +78,8 @@ def read_row(reader: Reader, found: List[Unit]) -> None:
             found.append(Unit(*parts))
         elif kind == "sees":
             found[-1].sees.append(Named(*parts))
+        elif kind == "marks":
+            found[-1].has_marks = True
         elif kind == "words":
             found[-1].words += parts
         elif kind == "has":
@@ -106,6 +109,7 @@ class Resolved:
     answered: Set[Named] = field(default_factory=set)
     words: List[str] = field(default_factory=list)  # labels of no function that units were compiled with
     called: Dict[Entry, str] = field(default_factory=dict)  # the parameters as C calls them
+    marked: List[str] = field(default_factory=list)  # units that use BLADE_SECRET
 
 
 class Resolver:
@@ -115,6 +119,7 @@ class Resolver:
         self.module, self.units, self.found = linked, units_of(linked), Resolved()
         self.starts = starts_of(linked)
         self.labels = [label for unit in self.units for label in unit.labels]
+        self.found.marked = [unit.path for unit in self.units if unit.has_marks]
         self.found.words = [word for unit in self.units for word in unit.words]
         for named in dict.fromkeys([named for unit in self.units for named in unit.sees] + of_words(words)):
             if named.name.isdigit() and self.units:
