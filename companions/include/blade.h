@@ -2,13 +2,20 @@
    labels; on other targets than WebAssembly the macros declare nothing. They stand at file scope. Licence: public domain (CC0).
 
      unsigned lookup(unsigned index);
-     BLADE_SECRET_PARAM(lookup, index);    parameter index of lookup is secret: by its name, or by its number, from 0
+     BLADE_SECRET_PARAM(lookup, index);    parameter index of lookup is secret: by its name in C, or by its number there, from 0
      BLADE_PUBLIC_RESULT(compare);         what compare returns has to be public
      BLADE_SECRET_MEMORY;                  all of C's memory is secret: what pointers lead to, C's variables, and what C keeps in frames
 
-   A function is named behind its declaration and before its definition, in the unit that defines it, or in a header that the unit includes: the
-   macro keeps clang from inlining it, for what an inlined copy is given would not be declared secret. There is no macro for a variable of C: it
-   stands in C's memory, which has one label as a whole. */
+     x = BLADE_SECRET(y);                  an expression: the value of y, a secret from here on
+
+   A function is named behind its declaration and before its definition, in every unit that defines it: put the line into the header that all units
+   include. blade-cc keeps clang from looking through the function, and checks the linked module: what the module's own calls give for a secret
+   parameter has to be secret in the caller already. So best label the functions that are called from outside. A number counts C's parameters. There
+   is no macro for a variable of C: it stands in C's memory, which has one label as a whole.
+
+   BLADE_SECRET is y ^ mask, with a mask that is 0: a global of the module whose first value is secret. y itself stays public, where it comes from and
+   where it goes to without the macro; all values that are marked share two masks, one up to 32 bits and one above; a pointer can't be marked; and
+   clang's -flto doesn't take it. */
 #ifndef BLADE_H
 #define BLADE_H
 #if defined(__wasm__) && !defined(BLADE_OFF)

@@ -591,7 +591,7 @@ CASES = [
             "blade-cc -c a.c -o a.o && wasm-ld -r -o b.o a.o && blade-cc b.o --label 'secret-param g "
             "0' -o out/"),
         starts=("arg 131072\nmemory 0 131072 03000000\n", "arg 131072\nmemory 0 131072 09000000\n")),
-    Case("stripped-object", LINKER, {
+    Case("stripped-object", LINKER + NO, {
         "a.c": HEAD + TABLE + (
             "BLADE_SECRET_MEMORY;\n"
             "unsigned g(unsigned *p) { return table[p[0] & 255]; }\n"),
@@ -600,7 +600,7 @@ CASES = [
             "blade-cc -c a.c -o a.o && blade-cc -c b.c -o b.o && llvm-objcopy "
             "--remove-section=blade.secrets a.o a2.o && blade-cc a2.o b.o -o out/"),
         starts=("arg 131072\nmemory 0 131072 03000000\n", "arg 131072\nmemory 0 131072 09000000\n")),
-    Case("llvm-strip-object", LINKER, {
+    Case("llvm-strip-object", LINKER + NO, {
         "a.c": HEAD + TABLE + (
             "BLADE_SECRET_MEMORY;\n"
             "unsigned g(unsigned *p) { return table[p[0] & 255]; }\n"),
@@ -1035,4 +1035,29 @@ CASES = [
             "unsigned f(unsigned k) { return k * 5 + 1; }\n"
             "unsigned g(unsigned i) { return table[f(i) & 255]; }\n")},
         command="blade-cc --label 'secret-param 1 0' --export g --export p a.c -o out/"),
+    # --- values that BLADE_SECRET marks
+    Case("marked", NO, {
+        "a.c": HEAD + TABLE + "unsigned g(unsigned i) { return table[BLADE_SECRET(i) & 255]; }\n"}),
+    Case("marked-branch-O1", NO, {
+        "a.c": HEAD + "volatile unsigned v;\nunsigned g(unsigned i) { if (BLADE_SECRET(i) > 5) v = 1; else v = v + 2; return 0; }\n"},
+        command="blade-cc -O1 a.c -o out/"),
+    Case("marked-char-O0", NO, {
+        "a.c": HEAD + TABLE + "BLADE_SECRET_MEMORY;\nunsigned g(unsigned i) { unsigned char k = BLADE_SECRET((unsigned char)i); return table[k]; }\n"},
+        command="blade-cc -O0 a.c -o out/"),
+    Case("marked-wide-cxx", NO, {
+        "a.cc": HEAD + TABLE + "extern \"C\" unsigned g(unsigned long long i) { return 1000 / ((unsigned)BLADE_SECRET(i) | 1); }\n"},
+        command="blade-cc a.cc -o out/"),
+    Case("marked-in-one-of-two-units", NO, {
+        "a.h": HEAD + "unsigned f(unsigned k);\n",
+        "a.c": '#include "a.h"\n' + TABLE + "unsigned f(unsigned k) { return table[k & 255]; }\n",
+        "b.c": '#include "a.h"\nunsigned g(unsigned i) { return f(BLADE_SECRET(i)); }\n'},
+        command="blade-cc -c a.c -o a.o && blade-cc -c b.c -o b.o && blade-cc a.o b.o -o out/"),
+    Case("marked-for-a-parameter", NO, {
+        "a.c": HEAD + TABLE + LABELLED + "unsigned f(unsigned k) { return k; }\nunsigned g(unsigned i) { return table[f(BLADE_SECRET(i)) & 255]; }\n"}),
+    Case("marked-stripped", (Answer(5, "uses BLADE_SECRET, and the module doesn't have its masks by name"),), {
+        "a.c": HEAD + TABLE + "unsigned g(unsigned i) { return table[BLADE_SECRET(i) & 255]; }\n"},
+        command="blade-cc -Wl,-s a.c -o out/"),
+    Case("marked-lto", LINKER + NO, {
+        "a.c": HEAD + TABLE + "unsigned g(unsigned i) { return table[BLADE_SECRET(i) & 255]; }\n"},
+        command="blade-cc -flto a.c -o out/"),
 ]

@@ -68,7 +68,9 @@ class Unit:
 
     def __init__(self, text: str, path: str, words: Sequence[str]) -> None:
         self.text, self.path, self.others = Text(text), path, beside(words)
-        lines = [named for named in map(of_line, dict.fromkeys(self.text.secrets())) if named]
+        told = list(dict.fromkeys(self.text.secrets()))
+        lines = [named for named in map(of_line, told) if named]
+        self.others += [word for line in told if of_line(line) is None for word in line.split("\t")[:2]]
         self.known = lines + of_words(words)
         self.labels = [label for named in self.known for label in self.found(named)]
         self.functions = {label.function.symbol: label.function for label in self.labels}
