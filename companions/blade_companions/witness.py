@@ -16,6 +16,7 @@ import random
 import signal
 import sys
 import tempfile
+from itertools import islice
 from typing import Dict, Iterable, Iterator, List, Optional, Sequence, Tuple
 
 from .witnesses import telling
@@ -121,7 +122,7 @@ def other_places(sought: Sought, most: int) -> Dict[int, Tuple[str, int]]:
     for mark in sought.meeting.first.values():
         new = mark & ~covered
         covered |= mark
-        tries += [place for place in range(len(first)) if new >> place & 1][:2]
+        tries += islice(sought.meeting.places(new), 2)
     tries += range(0, len(first), max(1, len(first) // most))
     with open(sought.given, encoding="ascii") as file:
         trace = file.read().splitlines()

@@ -8,7 +8,8 @@ from blade_companions.formats.image import Command, Function, Image, Memory, Ope
 from blade_companions.formats.reading import Bad
 from blade_companions.formats.running import Start
 from blade_companions.witnesses.directives import last_of
-from blade_companions.witnesses.pairs import Range, Secret, joined, ranges_of, what_changes
+from blade_companions.witnesses.meeting import Meeting
+from blade_companions.witnesses.pairs import Range, Secret, joined, ranges_of, what_changes, without
 
 
 def tiny() -> Image:
@@ -29,7 +30,26 @@ class Pairs(unittest.TestCase):
         self.ranges = what_changes(self.image, 0, self.start, [], [Range(0, 6, 1)])
 
     def test_bytes_that_meet_are_joined(self) -> None:
-        self.assertEqual(list(joined(3, {7, 9, 8, 1})), [Range(3, 1, 1), Range(3, 7, 3)])
+        ranges = [Range(3, 7, 1), Range(3, 9, 1), Range(3, 8, 1), Range(3, 1, 1), Range(3, 1, 1)]
+        self.assertEqual(joined(ranges), [Range(3, 1, 1), Range(3, 7, 3)])
+
+    def test_what_stays_is_taken_out(self) -> None:
+        """Against sets of bytes, for all ranges of a few bytes."""
+        some = [Range(0, at, size) for at in range(4) for size in range(1, 5)]
+        for one in some:
+            for kept in ([first, other] for first in some for other in some):
+                asked, staying = joined([one, Range(0, 6, 3)]), joined(kept)
+                left = {at for it in without(asked, staying) for at in range(it.offset, it.offset + it.size)}
+                wanted = {*range(one.offset, one.offset + one.size), 6, 7, 8} - {
+                    at for it in kept for at in range(it.offset, it.offset + it.size)}
+                self.assertEqual(left, wanted, (one, kept))
+
+    def test_no_more_changes_than_a_search_can_change(self) -> None:
+        self.image.memories[0] = Memory(9, 9, True, [])
+        for size, many, told in ((262_137, 1, "262,145 secret bytes"), (1, 4_096, "4,097 ranges")):
+            start = Start([5, 1], [(0, 2 * at, bytes(size)) for at in range(many)])
+            with self.subTest(told), self.assertRaisesRegex(Bad, f"limit: {told}"):
+                what_changes(self.image, 0, start, [], [])
 
     def test_what_changes(self) -> None:
         """The secret parameter, of 8 bytes; what the lines give, those that meet as one; without what is
@@ -45,6 +65,13 @@ class Pairs(unittest.TestCase):
                          "arg 5\narg 0\nmemory 0 5 2223\nmemory 0 4 aabb\nmemory 0 40 cc\n")
         self.assertEqual([secret.name(place) for place in (7, 8, 10)],
                          ["parameter 1", "memory 0, byte 4", "memory 0, byte 40"])
+
+    def test_a_bit_of_a_mark_is_of_several_bytes_if_there_are_many(self) -> None:
+        self.image.memories[0] = Memory(1, 1, True, [])
+        secret = Secret(self.image, Start([5, 1], [(0, 0, bytes(5_000))]), [Range(0, 0, 5_000)])
+        met = Meeting(self.image, 0, secret)
+        self.assertEqual((met.row, met.bytes[0][4_999]), (5, 1 << 999))
+        self.assertEqual(list(met.places(1 << 999 | 1)), [0, 1, 2, 3, 4, *range(4_995, 5_000)])
 
     def test_words_that_are_no_ranges(self) -> None:
         for word in ("0:1", "0:1:0", "0:-1:2", "x:1:2"):

@@ -87,7 +87,7 @@ class Start:
 
 
 ARGUMENT = re.compile(r"arg ([0-9]{1,40})")
-CONTENTS = re.compile(r"memory ([0-9]{1,40}) ([0-9]{1,40}) ((?:[0-9a-fA-F]{2})+)")
+CONTENTS = re.compile(r"memory ([0-9]{1,40}) ([0-9]{1,40}) ([0-9a-fA-F]+)")
 
 
 def read_start(text: str) -> Start:
@@ -96,7 +96,7 @@ def read_start(text: str) -> Start:
         argument, contents = ARGUMENT.fullmatch(line), CONTENTS.fullmatch(line)
         if argument:
             start.arguments.append(int(argument[1]))
-        elif contents:
+        elif contents and len(contents[3]) % 2 == 0:
             start.contents.append((int(contents[1]), int(contents[2]), bytes.fromhex(contents[3])))
         else:
             raise Bad(f"start: line {number}")

@@ -193,7 +193,7 @@ class Sought:
             covered |= mark
             for change in changes:
                 other = bytearray(first)
-                for place in (place for place in range(len(first)) if new >> place & 1):
+                for place in self.meeting.places(new):
                     other[place] = change(other[place])
                 if bytes(other) != first:
                     yield first, bytes(other)
@@ -220,6 +220,7 @@ class Sought:
 
     def reads(self, arguments: Sequence[int]) -> Dict[int, int]:
         """The first address of each load, also on wrong paths."""
+        self.program.left()
         made = self.wrong(0, arguments)
         made.trace()
         return made.run.reads

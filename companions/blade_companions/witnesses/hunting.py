@@ -42,7 +42,8 @@ def after_no(driver: "Driver", told: Told, lines: Lines, modules: Sequence[str],
              "--out", prefix, "--blade", driver.program]
     done = driver.runner.run(words)
     if done.status not in (FOUND, *NONE):
-        raise Stop(USAGE, f"blade-cc: error: --start {driver.asked.start}: {done.errors.strip()}")
+        said = done.errors.strip() or f"blade-witness ends with status {done.status}"
+        raise Stop(USAGE, f"blade-cc: error: --start {driver.asked.start}: {said}")
     image = told.found.image
     evidence = evidence_of_run(told.found, (), secret_of(image, *entry, (), ()), entry[0], RUN)
     explained = ["--start", *entry]

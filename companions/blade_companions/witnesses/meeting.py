@@ -2,7 +2,7 @@
 observer meets one: what one run shows, not what is proved. Licence: public domain (CC0)."""
 from __future__ import annotations
 
-from typing import Dict, List, Sequence, Set, Tuple
+from typing import Dict, Iterator, List, Sequence, Set, Tuple
 
 from ..verdict.flow import Origin, demanded_variables
 from ..formats.image import Command, Image, Operand
@@ -12,18 +12,22 @@ from ..formats.running import Step
 from .steering import Recorded
 
 Key = Tuple[int, int]  # a position and a variable, as an end has them
+BITS = 1_024  # of a mark, for bytes
 
 
 class Meeting(Recorded):
     """A mark of a value is a number: a bit for each byte that may change, and above these one for each cause
-    through whose sites it came since it was loaded. A cause's bit stands with the bits of bytes alone."""
+    through whose sites it came since it was loaded. A cause's bit stands with the bits of bytes alone. If more
+    bytes may change than there are bits, a bit is that of several bytes in a row."""
 
     def __init__(self, image: Image, function: int, secret: Secret,
                  causes: Sequence[Sequence[Origin]] = ()) -> None:
         super().__init__(image, function, secret.start)
-        size = len(secret.first)
-        self.changed = (1 << size) - 1
-        self.causes = [1 << size + number for number in range(len(causes))]
+        self.size = len(secret.first)
+        self.row = max(1, -(-self.size // BITS))  # bytes of a bit
+        bits = -(-self.size // self.row)
+        self.changed = (1 << bits) - 1
+        self.causes = [1 << bits + number for number in range(len(causes))]
         self.through: Dict[int, int] = {}
         declared: Dict[int, int] = {}
         for bit, origins in zip(self.causes, causes):
@@ -48,14 +52,21 @@ class Meeting(Recorded):
 
     def begin(self, param: int, secret: Secret, declared: Dict[int, int]) -> None:
         """The marks of the start; param is the variable of the first parameter."""
-        for one, at, data in secret.pieces(secret.first):
-            bits = (1 << at + len(data)) - (1 << at)
+        marks = [1 << number for number in range(-(-self.size // self.row))]
+        for one, at, _ in secret.pieces(secret.first):
             if one.memory is None:
                 variable = param + one.offset
-                self.marks[-1][variable] = bits | declared.get(variable, 0)
+                bits = {marks[place // self.row] for place in range(at, at + one.size)}
+                self.marks[-1][variable] = sum(bits) | declared.get(variable, 0)
             else:
-                self.bytes[one.memory].update((one.offset + place, 1 << at + place)
-                                              for place in range(len(data)))
+                self.bytes[one.memory].update((one.offset + place, marks[(at + place) // self.row])
+                                              for place in range(one.size))
+
+    def places(self, mark: int) -> Iterator[int]:
+        """The bytes of a mark."""
+        for number in range(-(-self.size // self.row)):
+            if mark >> number & 1:
+                yield from range(number * self.row, min(self.size, (number + 1) * self.row))
 
     def mark(self, operand: Operand) -> int:
         """That of an operand."""

@@ -3,13 +3,15 @@
 from __future__ import annotations
 
 import random
-from typing import Dict, Iterator, List, NamedTuple, Optional, Sequence, Set, Tuple
+from bisect import bisect_right
+from typing import Dict, Iterator, List, NamedTuple, Optional, Sequence, Tuple
 
 from ..formats.image import Image
 from ..formats.reading import Bad
 from ..formats.running import PAGE, Start, fits
 
 WIDE = 0x7E  # i64
+MOST_BYTES, MOST_RANGES = 262_144, 4_096  # that change
 Pair = Tuple[bytes, bytes]
 
 
@@ -36,27 +38,42 @@ def ranges_of(words: Sequence[str]) -> List[Range]:
     return found
 
 
-def places_of(image: Image, ranges: Sequence[Range]) -> Dict[int, Set[int]]:
+def places_of(image: Image, ranges: Sequence[Range]) -> Dict[int, List[Range]]:
     """The bytes of each memory in some ranges, which have to be there at first."""
-    places: Dict[int, Set[int]] = {}
+    places: Dict[int, List[Range]] = {}
     for one in ranges:
         if (one.memory >= len(image.memories)
             or one.offset + one.size > image.memories[one.memory].pages * PAGE):
             raise Bad(f"{one.memory}:{one.offset}:{one.size}: there are no such bytes at first")
-        places.setdefault(one.memory, set()).update(range(one.offset, one.offset + one.size))
-    return places
+        places.setdefault(one.memory, []).append(one)
+    return {memory: joined(some) for memory, some in places.items()}
 
 
-def joined(memory: int, places: Set[int]) -> Iterator[Range]:
-    """Bytes as ranges, rising."""
-    begin = last = None
-    for place in sorted(places):
-        if last is not None and place != last + 1:
-            yield Range(memory, begin, last + 1 - begin)
-            begin = None
-        begin, last = place if begin is None else begin, place
-    if last is not None:
-        yield Range(memory, begin, last + 1 - begin)
+def joined(ranges: Sequence[Range]) -> List[Range]:
+    """Ranges of one memory in their order, those that meet as one."""
+    found: List[Range] = []
+    for one in sorted(ranges):
+        if found and one.offset <= found[-1].offset + found[-1].size:
+            last = found.pop()
+            end = max(last.offset + last.size, one.offset + one.size)
+            one = Range(last.memory, last.offset, end - last.offset)
+        found.append(one)
+    return found
+
+
+def without(ranges: Sequence[Range], kept: Sequence[Range]) -> Iterator[Range]:
+    """What is in some joined ranges and not in others."""
+    begins = [one.offset for one in kept]
+    for one in ranges:
+        begin, end = one.offset, one.offset + one.size
+        number = max(0, bisect_right(begins, begin) - 1)
+        while number < len(kept) and begins[number] < end:
+            if begins[number] > begin:
+                yield Range(one.memory, begin, begins[number] - begin)
+            begin = max(begin, begins[number] + kept[number].size)
+            number += 1
+        if begin < end:
+            yield Range(one.memory, begin, end - begin)
 
 
 def what_changes(image: Image, function: int, start: Start, asked: Sequence[Range],
@@ -74,8 +91,19 @@ def what_changes(image: Image, function: int, start: Start, asked: Sequence[Rang
     found = [Range(None, index, 8 if is_wide(image, function, index) else 4) for index,
              secret in enumerate(image.functions[function].secret_params) if secret]
     for memory, places in sorted(places_of(image, asked or given).items()):
-        found += joined(memory, places - staying.get(memory, set()))
-    return found
+        found += without(places, staying.get(memory, []))
+    return not_many(found)
+
+
+def not_many(ranges: List[Range]) -> List[Range]:
+    """Ranges of as many bytes as a search can change."""
+    size, remedy = sum(one.size for one in ranges), "say which of them do by --secret M:OFFSET:SIZE"
+    if size > MOST_BYTES:
+        raise Bad(f"limit: {size:,} secret bytes would change, and at most {MOST_BYTES:,} can: {remedy}")
+    if len(ranges) > MOST_RANGES:
+        raise Bad(f"limit: {len(ranges):,} ranges of secret bytes would change, and at most {MOST_RANGES:,} "
+                  f"can: {remedy}")
+    return ranges
 
 
 class Secret:
@@ -83,7 +111,11 @@ class Secret:
 
     def __init__(self, image: Image, start: Start, ranges: Sequence[Range]) -> None:
         self.start, self.ranges = start, list(ranges)
-        spaces = {one.memory: contents(image, one.memory, start) for one in ranges if one.memory is not None}
+        memories = {one.memory for one in ranges if one.memory is not None}
+        spaces = {memory: contents(image, memory, start) for memory in memories}
+        inside = sorted(one for one in ranges if one.memory is not None)
+        self.kept = [f"memory {number} {offset} {data.hex()}" for number, offset, data in start.contents
+                     if not is_covered(inside, number, offset, len(data))]
         self.first = b"".join(
             start.arguments[one.offset].to_bytes(8, "little")[: one.size] if one.memory is None
             else bytes(spaces[one.memory][one.offset : one.offset + one.size]) for one in ranges)
@@ -103,13 +135,7 @@ class Secret:
                 values[one.offset] = int.from_bytes(data, "little")
             else:
                 lines.append(f"memory {one.memory} {one.offset} {data.hex()}")
-        kept = [f"memory {number} {offset} {data.hex()}" for number, offset,
-                data in self.start.contents if not self.covers(number, offset, len(data))]
-        return "\n".join([f"arg {value}" for value in values] + kept + lines) + "\n"
-
-    def covers(self, memory: int, offset: int, size: int) -> bool:
-        return any(one.memory == memory and one.offset <= offset and offset + size <= one.offset + one.size
-                   for one in self.ranges)
+        return "\n".join([f"arg {value}" for value in values] + self.kept + lines) + "\n"
 
     def name(self, place: int) -> str:
         """What a byte of the string is."""
@@ -146,6 +172,13 @@ class Secret:
                 if len(other) == len(data):
                     made = self.first[:to] + data + self.first[to + len(data) :]
                     yield made, flipped(made, 8 * to + chance.randrange(8 * len(data)))
+
+
+def is_covered(ranges: Sequence[Range], memory: int, offset: int, size: int) -> bool:
+    """Whether one of the ranges, which rise and don't meet, has all these bytes."""
+    number = bisect_right(ranges, Range(memory, offset, 1 << 64)) - 1
+    return number >= 0 and ranges[number].memory == memory and (
+        offset + size <= ranges[number].offset + ranges[number].size)
 
 
 def contents(image: Image, memory: int, start: Start) -> bytearray:

@@ -5,6 +5,7 @@ from __future__ import annotations
 import os
 import shutil
 import subprocess
+import time
 from dataclasses import dataclass
 from typing import Dict, List, NamedTuple, Optional, Sequence, Tuple
 
@@ -29,6 +30,10 @@ def program_of(asked: Optional[str]) -> str:
         raise Bad("there is no blade that is built: run ./blade once, or give one by "
                   "--blade PROGRAM or BLADE")
     return found
+
+
+class Over(Exception):
+    """Time is over."""
 
 
 @dataclass
@@ -59,6 +64,14 @@ class Program:
         self.path, self.image, self.export = path, image, export
         self.judge = judge  # twin or forward
         self.folder = folder
+        self.until: Optional[float] = None  # the time at which calls end
+
+    def left(self) -> Optional[float]:
+        """The seconds that are left, of which there are some."""
+        seconds = None if self.until is None else self.until - time.monotonic()
+        if seconds is not None and seconds <= 0:
+            raise Over
+        return seconds
 
     def file(self, name: str, text: str) -> str:
         """Writes a file, and gives its path."""
@@ -69,8 +82,11 @@ class Program:
 
     def call(self, words: Sequence[str], expected: Sequence[int], keep: bool = True) -> Tuple[int, str]:
         """The status, which is an expected one, and the text where it is kept."""
-        done = subprocess.run([self.path, *words], stdout=subprocess.PIPE if keep else subprocess.DEVNULL,
-                              stderr=subprocess.PIPE, check=False)
+        try:
+            done = subprocess.run([self.path, *words], stdout=subprocess.PIPE if keep else subprocess.DEVNULL,
+                                  stderr=subprocess.PIPE, check=False, timeout=self.left())
+        except subprocess.TimeoutExpired:
+            raise Over from None
         text = (done.stdout or b"").decode("utf-8", "replace")
         if done.returncode not in expected:
             said = text.strip().split("\n")[-1] or done.stderr.decode("utf-8", "replace").strip()[-200:]

@@ -15,6 +15,7 @@ from multiprocessing.connection import Connection
 from typing import Iterator, Optional, Tuple
 
 from .attempts import Attempt, Sought, Tried
+from .program import Over
 from ..formats.reading import Bad
 
 AHEAD = 2  # so many attempts a processor are begun before the first is done
@@ -49,10 +50,6 @@ class Done:
     def text(self) -> str:
         wrong = f" with {self.paths} wrong paths" if self.paths else ""
         return f"{self.pairs} pairs of starts on {self.traces} traces{wrong}, {self.runs} pairs of whole runs"
-
-
-class Over(Exception):
-    """Time is over."""
 
 
 class Progress:
@@ -117,7 +114,7 @@ class Child:
         except EOFError:
             raise Bad("an attempt was ended from outside") from None
         if isinstance(tried, Exception):
-            raise tried
+            raise tried  # Over, too
         return tried
 
     def end(self) -> None:
@@ -161,6 +158,7 @@ def search(sought: Sought, seconds: float) -> Searched:
     one that is: time only ends the search."""
     done = Done()
     progress, searched = Progress(done, seconds), Searched(done)
+    sought.program.until = done.begun + seconds
     try:
         sought.begin()
         with closing(in_order(sought, progress)) as made:

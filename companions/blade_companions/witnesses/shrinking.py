@@ -4,11 +4,12 @@ from __future__ import annotations
 
 from dataclasses import dataclass
 from itertools import islice
+import time
 from typing import List, Optional, Sequence, Tuple
 
 from .directives import Entry, last_of
 from .pairs import flipped
-from .program import Difference
+from .program import Difference, Over
 from ..formats.reading import Bad
 from ..formats.running import traced
 from .steering import LINES
@@ -16,6 +17,7 @@ from .attempts import Attempt, Sought, Tried
 
 PARTS = 64  # changed bytes are left out by so many parts at most
 COMMANDS = 150_000  # a run in plain order is tried up to here
+LONGER = 5.0  # seconds that it may take beyond those of the search
 
 
 @dataclass
@@ -31,10 +33,12 @@ class Found:
 
 
 class Shrinking:
-    """Makes one finding small. How much it tries doesn't depend on time."""
+    """Makes one finding small, until time is over. The finding itself doesn't depend on time."""
 
     def __init__(self, sought: Sought, attempt: Attempt, tried: Tried) -> None:
         self.sought, self.paths = sought, tried.paths
+        self.until = max(sought.program.until or 0, time.monotonic() + LONGER)
+        sought.program.until = None
         with open(tried.trace, encoding="ascii") as file:
             trace = file.read().splitlines()
         difference = self.apart(trace, attempt.first, tried.other, attempt.arguments)
@@ -55,13 +59,21 @@ class Shrinking:
 
     def go(self) -> Found:
         """The finding, made small."""
+        self.sought.program.until = self.until
+        try:
+            self.make_small()
+        except Over:
+            pass
+        self.sought.program.until = None
+        return self.found
+
+    def make_small(self) -> None:
         if self.paths:
             self.last_path_alone()
         self.fewer_bytes()
         self.one_bit()
         if not self.paths:
             self.plainly()
-        return self.found
 
     def try_trace(self, trace: List[str]) -> bool:
         """Takes another trace, if the runs are told apart there."""
@@ -121,6 +133,7 @@ class Shrinking:
 
     def plainly(self) -> None:
         """The run in the order of the program, which is easier to read."""
+        self.sought.program.left()
         run = self.sought.recorded(self.found.first, self.found.arguments)
         self.found.plain = self.try_trace(list(islice(traced(run, COMMANDS), LINES)))
 
