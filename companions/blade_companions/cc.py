@@ -158,7 +158,7 @@ class Driver:
             made, told = with_source(module, asked.labels, False, True, linked)
         except Bad as bad:
             raise Stop(LABELS, f"blade-cc: error: {bad} [blade-label]") from None
-        errors = told.errors or lost(linked, told, asked.public_callers) or self.builder.strangers(told.others, asked.public_callers)
+        errors = told.errors or lost(linked, told, asked.public_callers) or self.builder.strangers(linked, told.others, asked.public_callers)
         if errors:
             raise Stop(LABELS, *errors)
         self.where, self.called = dict(told.entries), told.called

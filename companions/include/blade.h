@@ -14,8 +14,9 @@
    is no macro for a variable of C: it stands in C's memory, which has one label as a whole.
 
    BLADE_SECRET is y ^ mask, with a mask that is 0: a global of the module whose first value is secret. y itself stays public, where it comes from and
-   where it goes to without the macro; all values that are marked share two masks, one up to 32 bits and one above; a pointer can't be marked; and
-   clang's -flto doesn't take it. */
+   where it goes to without the macro, and so is a marked value that the code then compares with y and assumes to be the same (__builtin_assume,
+   __builtin_unreachable). All values that are marked share two masks, one up to 32 bits and one above. A pointer can't be marked, nor can what has more
+   than 64 bits: mark its parts. clang's -flto doesn't take it. */
 #ifndef BLADE_H
 #define BLADE_H
 #if defined(__wasm__) && !defined(BLADE_OFF)
@@ -25,13 +26,13 @@
 #define BLADE_NAMED_(number) BLADE_GLUED_(blade_labels_stand_at_file_scope_, number)
 /* The empty function makes a macro inside of a function an error: a section that is switched there would break the code. */
 #define BLADE_DECLARE_(kind, name, which) \
-    static inline __attribute__((unused)) void BLADE_NAMED_(__COUNTER__)(void) {} \
+    static __inline__ __attribute__((__unused__)) void BLADE_NAMED_(__COUNTER__)(void) {} \
     __asm__(".section .custom_section.blade.secrets,\"\",@\n.ascii \"" kind "\\t" name "\\t" which "\\t" __FILE__ ":" BLADE_SPELLED_(__LINE__) \
             "\\t" __BASE_FILE__ "\\n\"\n.text\n")
 /* The note tells blade-cc which function of that name is meant. Behind the definition the attributes would come too late: that is an error then. */
 #define BLADE_KEPT_(function, kind, name, which) \
     _Pragma("clang diagnostic push") _Pragma("clang diagnostic error \"-Wignored-attributes\"") \
-    extern __typeof__(function) function __attribute__((noinline, annotate(kind "\t" name "\t" which "\t" __FILE__ ":" BLADE_SPELLED_(__LINE__) \
+    extern __typeof__(function) function __attribute__((__noinline__, __annotate__(kind "\t" name "\t" which "\t" __FILE__ ":" BLADE_SPELLED_(__LINE__) \
                                                                            "\t" __BASE_FILE__))); \
     _Pragma("clang diagnostic pop")
 #define BLADE_FUNCTION_(function, kind, name, which) BLADE_KEPT_(function, kind, name, which) BLADE_DECLARE_(kind, name, which)
@@ -40,10 +41,10 @@
 #define BLADE_PUBLIC_RESULT(function) BLADE_FUNCTION_(function, "public-result", BLADE_SPELLED_(function), "0")
 #define BLADE_SECRET_MEMORY BLADE_DECLARE_("secret-memory", "0", "-")
 /* Masks that are 0, in globals of the module whose first values are secret. What is read of a volatile variable isn't known to any compiler. */
-extern volatile unsigned __attribute__((address_space(1))) blade_secret_mask_32;
-extern volatile unsigned long long __attribute__((address_space(1))) blade_secret_mask_64;
+extern volatile unsigned __attribute__((__address_space__(1))) blade_secret_mask_32;
+extern volatile unsigned long long __attribute__((__address_space__(1))) blade_secret_mask_64;
 #define BLADE_SECRET(value) \
-    ((__typeof__(value))((value) ^ (__typeof__(value))(sizeof(value) > 4 ? (unsigned long long)blade_secret_mask_64 : blade_secret_mask_32)))
+    ((__typeof__(value))((value) ^ (__typeof__(value))(sizeof(value) > 4 * sizeof(char[sizeof(value) <= 8 ? 1 : -1]) ? (unsigned long long)blade_secret_mask_64 : blade_secret_mask_32)))
 #else
 #define BLADE_SECRET_PARAM(function, parameter) struct blade_labels_
 #define BLADE_PUBLIC_RESULT(function) struct blade_labels_

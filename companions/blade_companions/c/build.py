@@ -10,10 +10,10 @@ from typing import List, Sequence, Set
 from .arguments import ALONE, BUILD, USAGE, Asked, Stop
 from .dwarf import all_contents
 from .declarations import lines_in
-from .inputs import Input, inputs_in, lines_of
-from .objects import given_by, given_in, is_recorded
-from .paths import shown
-from .compiling import ASSEMBLER, TARGET, WASI, Compiler
+from .inputs import Input, inputs_in, lines_of, text_of
+from .objects import given_by
+from .strangers import left_out_words, of_inputs
+from .compiling import TARGET, WASI, Compiler
 from .refusals import about_symbols
 from .tools import INCLUDE, Ran, Runner, found, written_to
 from ..formats.module import FUNCTION, Module, read_module
@@ -34,7 +34,6 @@ class Builder:
         self.asked, self.runner, self.folder = asked, runner, folder
         self.compiler = Compiler(asked, runner)
         self.opened: List[Input] = []
-        self.assembled: Set[str] = set()  # objects of sources in assembler, which nothing optimises
 
     def alone(self) -> int:
         """What clang does by itself, and objects, which are made as for a module."""
@@ -65,8 +64,6 @@ class Builder:
         for number, source in enumerate(self.asked.sources):
             made.append(f"{self.folder}/{number}-{os.path.splitext(os.path.basename(source))[0]}.o")
             self.compiler.compile(source, made[-1], self.folder)
-            if source.endswith(ASSEMBLER):
-                self.assembled.add(os.path.realpath(made[-1]))
         return made + self.asked.objects
 
     def library(self, missing: Set[str]) -> List[str]:
@@ -137,17 +134,13 @@ class Builder:
         """The lines of blade.h in all that the linker opened, linked or not."""
         return [line for one in self.inputs() for line in (lines_of(one, self.runner, self.folder) if one.is_bitcode else lines_in(one.data))]
 
-    def strangers(self, names: Sequence[str], meant: Sequence[str]) -> List[str]:
-        """Labelled functions of objects that blade-cc didn't compile, beside which other functions may have copies of their code."""
-        told = []
-        for name in names:
-            for one in self.inputs() if name not in meant and not name.isdigit() else []:
-                given = given_in(one.data, one.path) if one.is_object else []
-                more = [other for other in given if other != name and other not in names]
-                if name in given and more and not is_recorded(one) and one.path not in self.assembled:
-                    told.append(f"blade-cc: error: {shown(one.path)} has {name}, and blade-cc didn't compile it, so a copy of {name} may stand in {more[0]}, where "
-                                f"nothing is declared: compile it by blade-cc -c, or say --public-callers={name} if there is none [blade-caller]")
-        return told
+    def strangers(self, linked: Module, names: Sequence[str], meant: Sequence[str]) -> List[str]:
+        """What may be wrong with labels in code that blade-cc didn't compile, or that doesn't know them."""
+        asked = [name for name in names if name not in meant and not name.isdigit()]
+        known = self.compiler.known_to_clang(set(asked)) if asked else []
+        inputs = [one for one in self.inputs() if os.path.basename(one.path) != "blade-libc.o"]
+        told = left_out_words(linked, inputs, self.asked.labels)
+        return told + of_inputs(linked, [(one, text_of(one, self.runner, self.folder) if one.is_bitcode else "") for one in inputs], asked, known)
 
     def split(self, name: str) -> Module:
         linked, made = f"{self.folder}/linked.wasm", f"{self.folder}/{name}.wasm"

@@ -17,6 +17,7 @@ from .tools import HERE, INCLUDE, Runner, found
 
 # wasm-opt 108 can't read DWARF 5.
 TARGET = ["--target=wasm32", "-mcpu=mvp", "-gdwarf-4"]
+IMPLICIT = "-Werror=implicit-int"  # a macro of blade.h without blade.h would be a variable
 VISIBLE = "-fvisibility=default"  # else clang hides all functions of this target
 WASI = os.environ.get("WASI_SYSROOT", "/usr")  # as Debian's wasi-libc stands there, and wasi-sdk's in its own folder
 WASI_HEADERS = f"{WASI}/include/wasm32-wasi"
@@ -35,7 +36,7 @@ class Compiler:
 
     def words(self, source: str) -> List[str]:
         asked = self.asked
-        words = [found("clang++" if source.endswith((".cc", ".cpp", ".cxx", ".C")) else "clang"), *TARGET, VISIBLE]
+        words = [found("clang++" if source.endswith((".cc", ".cpp", ".cxx", ".C")) else "clang"), *TARGET, VISIBLE, IMPLICIT]
         if not any(flag.startswith("-O") for flag in asked.flags):
             words.append("-O2")
         if asked.way:
@@ -54,7 +55,7 @@ class Compiler:
             return
         base = f"{folder}/{os.path.splitext(os.path.basename(to))[0]}"
         text = self.before(source, to, f"{base}.ll")
-        later = any(flag.startswith("-flto") for flag in self.asked.flags)
+        later = any(flag.startswith(("-flto", "-emit-llvm")) for flag in self.asked.flags)
         words = [os.path.join(HERE, "blade-cc"), "--keep-labelled", f"{base}.ll", source]
         self.runner.show([*words, *(["-flto"] if later else []), *[word for label in self.labels() for word in ("--label", label)]], f"{base}.kept.ll")
         written_to(f"{base}.kept.ll", kept(text, source, self.asked.labels, later).encode("utf-8", "surrogateescape"))
@@ -101,8 +102,10 @@ class Compiler:
         for label in unit.labels:
             named, name = label.named, label.function.name
             if named.kind == "secret-param" and not named.which.isdigit():
-                words = [*self.words(source), "-fsyntax-only", "-w", "-Xclang", "-ast-dump", "-Xclang", f"-ast-dump-filter={name}", source]
-                if differing(self.runner.run(words, given="").out, name, named.which):
+                bare = name.partition("<")[0]
+                words = [*self.words(source), "-fsyntax-only", "-w", "-Xclang", "-ast-dump", "-Xclang", f"-ast-dump-filter={bare}",
+                         "-fno-color-diagnostics", source]
+                if differing(self.runner.run(words, given="").out, bare, named.which):
                     place = source if named.where == BY_WORDS else named.where
                     raise Stop(LABELS, f"{place}: error: declarations of {name} don't agree which parameter is {named.which}: give the same names, or its "
                                "number, from 0 [blade-label]")

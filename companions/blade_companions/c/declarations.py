@@ -13,6 +13,7 @@ from .opaque import BY_WORDS, Named, of_words
 from .paths import shown
 from .units import Resolved
 from .units import Resolver as ByUnits
+from .units import units_of
 from ..formats.reading import Bad
 from ..formats.module import FUNCTION, GLOBAL, FuncType, Module
 
@@ -41,7 +42,7 @@ class Labelled(NamedTuple):
     entries: List[Tuple[Entry, str]]
     errors: List[str]
     warnings: List[str]
-    others: Tuple[str, ...] = ()  # functions of units that blade-cc didn't compile
+    others: Tuple[str, ...] = ()  # the labelled functions, as lines and words name them
     called: Dict[Entry, str] = {}  # parameters as C calls them
 
 
@@ -77,7 +78,7 @@ def left_out(module: Module, lines: Sequence[str]) -> List[str]:
         if one.kind == "secret-memory":
             told.append(f"{one.where}: error: the memory is declared secret here, in a unit of a library that isn't linked: declare it beside "
                         "a function that is used, or by --label 'secret-memory 0' [blade-label]")
-        elif KINDS[one.kind].names[0] == "function" and names.get(one.name):
+        elif KINDS[one.kind].names[0] == "function" and (names.get(one.name) or not module.names):
             told.append(f"{one.where}: error: {one.name} is labelled here, in a unit of a library that isn't linked: have the unit that defines "
                         f"{one.name} include this line [blade-label]")
     return told
@@ -310,8 +311,26 @@ def labels_of(module: Module, words: Sequence[str] = (), linked: Optional[Module
         name = module.function_name(function)
         errors += [f"{call.path}:{call.line}:{call.column}: error: {name} is inlined here, in {call.caller}, and what it is given isn't declared secret, {KEEP} "
                    "[blade-inlined]" for call in copies(told, function)]
-    others += tuple(named.name for named in of_words(rest))
+    others += tuple(named.name for named in [*of_words(rest), *known.answered])
+    errors += other_names(linked, by_words) if linked else []
     return Labelled(by_source + [(entry, "") for entry in by_words], known.errors + errors, [], others, known.called)
+
+
+def other_names(linked: Module, entries: Sequence[Entry]) -> List[str]:
+    """Words that name a function of a unit otherwise than the unit does: it was compiled without the label."""
+    named = {name for unit in units_of(linked) for one in unit.has for name in (one.symbol, one.name)}
+    found = []
+    for kind, (function, *_) in entries:
+        told = linked.names.get(function, "") if KINDS[kind].names[0] == "function" else ""
+        names = {told, base(told), base(told).rpartition("::")[2], *called_as(linked, function)} if told else set()
+        if names & named:
+            found.append(f"blade-cc: error: {kind}: the unit that defines {told} was compiled without this label: give its name in C, "
+                         f"{min(names & named)}, to blade-cc -c, too [blade-label]")
+    return found
+
+
+def called_as(module: Module, function: int) -> List[str]:
+    return [name for (sort, name), index in module.exports.items() if (sort, index) == (FUNCTION, function)]
 
 
 def with_source(module: Module, words: Sequence[str], replace: bool = False, unlabelled: bool = False, linked: Optional[Module] = None) -> Tuple[bytes, Labelled]:

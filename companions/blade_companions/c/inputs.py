@@ -48,10 +48,11 @@ def copied(tar: str) -> Iterator[Input]:
 
 def inputs_in(tar: str) -> List[Input]:
     """All objects: files, and members of archives."""
-    found_all: Dict[str, Input] = {}
+    found_all: Dict[Tuple[str, int], Input] = {}
     for one in copied(tar):
-        for other in members(one) if one.data.startswith((PLAIN, THIN)) else [one]:
-            found_all.setdefault(other.path, other)
+        # Two members of an archive may have one name.
+        for number, other in enumerate(members(one) if one.data.startswith((PLAIN, THIN)) else [one]):
+            found_all.setdefault((one.path, number), other)
     return list(found_all.values())
 
 
@@ -99,10 +100,15 @@ def beside(archive: Input, name: str) -> bytes:
 
 
 def lines_of(one: Input, runner: Runner, folder: str) -> List[str]:
-    """The lines of blade.h in LLVM's bitcode, which clang has to spell."""
+    """The lines of blade.h in LLVM's bitcode."""
+    return secrets_in(text_of(one, runner, folder).split("\n"))
+
+
+def text_of(one: Input, runner: Runner, folder: str) -> str:
+    """LLVM's bitcode as text, which clang has to spell."""
     path = f"{folder}/bitcode.bc"
     written_to(path, one.data)
     done = runner.run([found("clang"), "-x", "ir", "-S", "-emit-llvm", "-o", "-", path], given="")
     if done.status:
         raise Stop(LABELS, f"blade-cc: error: {one.path}: LLVM's bitcode that clang can't read, so nobody can tell whether it has labels [blade-label]")
-    return secrets_in(done.out.split("\n"))
+    return done.out

@@ -71,6 +71,11 @@ def plain(symbol: str) -> str:
     return unescaped(symbol[1:].strip('"'))
 
 
+def is_symbol_of(symbol: str, name: str) -> bool:
+    """Whether a symbol may be that of a function, by its name in C or C++."""
+    return symbol == name or symbol.partition(".")[0] == name or symbol.startswith("_Z") and f"{len(name)}{name}" in symbol
+
+
 def first_type(text: str) -> str:
     """The type that a parameter's or a result's text begins with."""
     depth = 0

@@ -1,16 +1,18 @@
 """Objects of WebAssembly, before they are linked: the functions that they give to others. Licence: public domain (CC0)."""
 from __future__ import annotations
 
-from typing import List, Optional
+import re
+from typing import Iterable, List, NamedTuple, Optional
 
 from ..formats.reading import Reader
 from ..formats.module import FUNCTION, sections_of
 from .inputs import Input
-from .opaque import NAME as UNITS
 
 SYMBOLS = 8  # the part of the section `linking` that lists symbols
 DATA, SECTIONS = 1, 3  # kinds of symbols beside those of modules
 LOCAL, HIDDEN, UNDEFINED, NAMED = 2, 4, 0x10, 0x40  # their flags
+# Functions that LLVM itself makes of others.
+MADE = re.compile(r"__original_main|__main_void|__main_argc_argv|(register_)?call_dtors.*|\..*_bitcast.*")
 
 
 def given_by(path: str) -> Optional[List[str]]:
@@ -20,7 +22,23 @@ def given_by(path: str) -> Optional[List[str]]:
     return given_in(data, path) if data.startswith(b"\0asm") else None
 
 
+class Symbol(NamedTuple):
+    """A function of an object's list of symbols."""
+
+    name: str
+    flags: int
+
+    @property
+    def is_defined(self) -> bool:
+        return not self.flags & UNDEFINED
+
+
 def given_in(data: bytes, path: str) -> List[str]:
+    return [one.name for one in functions_in(data) if not one.flags & (LOCAL | HIDDEN | UNDEFINED)]
+
+
+def functions_in(data: bytes) -> List[Symbol]:
+    """All functions of an object, those of others that it calls included."""
     for section in sections_of(data):
         if section.name == "linking":
             reader = Reader(data, section.contents, section.end)
@@ -29,23 +47,25 @@ def given_in(data: bytes, path: str) -> List[str]:
     return []
 
 
-def is_recorded(one: Input) -> bool:
-    """Whether blade-cc compiled an object."""
-    return any(section.name == UNITS for section in sections_of(one.data))
+def plain_functions(one: Input, recorded: Iterable[str]) -> List[str]:
+    """The functions of an object that blade-cc didn't compile, given those that its record has."""
+    known = set(recorded)
+    return [told.name for told in functions_in(one.data) if told.is_defined and told.name not in known
+            and not MADE.fullmatch(told.name) and told.name.partition(".")[0] not in known]
 
 
-def parts(reader: Reader) -> List[str]:
+def parts(reader: Reader) -> List[Symbol]:
     while reader.place < reader.end:
         kind, size = reader.byte(), reader.number()
         part = Reader(reader.data, reader.place, reader.place + size)
         reader.take(size)
         if kind == SYMBOLS:
-            return [name for _ in range(part.number()) for name in symbol(part)]
+            return [one for _ in range(part.number()) for one in symbol(part)]
     return []
 
 
-def symbol(reader: Reader) -> List[str]:
-    """The name of a symbol that is a function for others, else none."""
+def symbol(reader: Reader) -> List[Symbol]:
+    """A symbol that is a function, else none."""
     kind, flags = reader.byte(), reader.number()
     if kind == DATA:
         reader.text()
@@ -56,4 +76,4 @@ def symbol(reader: Reader) -> List[str]:
     if kind == SECTIONS or flags & UNDEFINED and not flags & NAMED:
         return []
     name = reader.text()
-    return [name] if kind == FUNCTION and not flags & (LOCAL | HIDDEN | UNDEFINED) else []
+    return [Symbol(name, flags)] if kind == FUNCTION else []

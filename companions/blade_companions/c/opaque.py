@@ -8,7 +8,7 @@ from typing import Dict, Iterable, List, NamedTuple, Optional, Sequence, Set, Tu
 
 from ..formats.labels import KINDS
 from ..formats.reading import Bad
-from .ir import INLINE_LINKAGE, Defined, Param, Text, mentions, size_of
+from .ir import INLINE_LINKAGE, Defined, Param, Text, is_symbol_of, mentions, size_of
 
 NAME = "blade.units"
 BY_WORDS = "--label"  # where the labels of words stand
@@ -92,6 +92,8 @@ def asked_name(one: Defined, which: str) -> str:
         count = len(one.numbered)
         raise Bad(f"{one.name} has {count} parameters with names in C, and no parameter {which} (numbers count C's parameters from 0)" if count else
                   f"parameter {which} of {one.name} can't be told: compile with -g, or give its name")
+    if list(one.numbered.values()).count(one.numbered[int(which)]) > 1:
+        raise Bad(f"several parameters of {one.name} are called {one.numbered[int(which)]}: declare a caller's parameter")
     return one.numbered[int(which)]
 
 
@@ -158,6 +160,8 @@ class Opaque:
             counts[one] = counts.get(one, 0) + 1
         for one in unit.functions.values():
             self.keep(one)
+            if is_linked_later and one.is_local:
+                raise Bad(f"{one.name} is static, and with -flto another unit's function of that name may get its label: drop static, or -flto")
             if is_linked_later or counts.get(one.symbol):
                 self.hide(one)
         self.forbid_builtins()
@@ -282,8 +286,9 @@ def calls(unit: Unit) -> Dict[str, List[str]]:
         for symbol in mentions(unit.text.lines[one.start + 1 : one.end]):
             named.setdefault(symbol, set()).add(one.symbol)
     local = {one.symbol for one in unit.text.defined if one.is_local or one.linkage in REACHED}
-    wanted = set(unit.functions) | {known.name for known in unit.known}
-    return {symbol: sorted(leading(symbol, named, local)) for symbol in wanted if symbol in named}
+    names = {known.name.rpartition("::")[2] for known in unit.known}
+    wanted = [symbol for symbol in named if symbol in unit.functions or any(is_symbol_of(symbol, name) for name in names)]
+    return {symbol: sorted(leading(symbol, named, local)) for symbol in wanted}
 
 
 def leading(symbol: str, named: Dict[str, Set[str]], local: Set[str]) -> Set[str]:

@@ -4,8 +4,8 @@ from __future__ import annotations
 import re
 from typing import Dict, List, NamedTuple, Set
 
-FUNCTION = re.compile(r"FunctionDecl (0x\w+) (?:parent 0x\w+ )?(?:prev (0x\w+) )?<.*?> \S+ (?:(?:used|referenced|implicit|invalid|constexpr) )*(\S+) '")
-PARAMETER = re.compile(r"[|`]-ParmVarDecl 0x\w+ (?:prev 0x\w+ )?<.*?> \S+ (?:(?:used|referenced|implicit|invalid|constexpr) )*(\w+)? ?'")
+FUNCTION = re.compile(r"(?:Function|CXX(?:Method|Constructor|Destructor|Conversion))Decl (0x\w+) (?:parent 0x\w+ )?(?:prev (0x\w+) )?<.*?> \S+ (?:(?:used|referenced|implicit|invalid|constexpr) )*(\S+) '")
+PARAMETER = re.compile(r"[|`]-ParmVarDecl 0x\w+ (?:prev 0x\w+ )?<.*?> \S+ (?:(?:used|referenced|implicit|invalid|constexpr) )*(?:([^\s']+) )?'")
 
 
 class Prototype(NamedTuple):
@@ -32,8 +32,10 @@ def prototypes_in(text: str) -> List[Prototype]:
 
 
 def differing(text: str, name: str, parameter: str) -> bool:
-    """Whether two declarations of one function give a parameter's name to different parameters."""
+    """Whether two declarations of one function may give a parameter's name to different parameters."""
     places: Dict[str, Set[int]] = {}
+    if not any(one.name == name for one in prototypes_in(text)):
+        return True  # what isn't found isn't compared
     for one in prototypes_in(text):
         if one.name == name:
             places.setdefault(one.first, set()).update(at for at, told in enumerate(one.params) if told == parameter)

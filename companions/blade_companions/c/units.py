@@ -9,6 +9,7 @@ from ..formats.labels import Entry
 from ..formats.module import FUNCTION, Module
 from ..formats.reading import Bad, Reader
 from .dwarf import all_contents
+from .ir import is_symbol_of
 from .opaque import BY_WORDS, NAME, Named, of_words
 from .paths import shown
 
@@ -63,8 +64,12 @@ def row_of(reader: Reader) -> List[str]:
 
 def units_of(module: Module) -> List[Unit]:
     """What the section says; modules that blade-cc didn't compile have none."""
+    return units_in(all_contents(module, NAME))
+
+
+def units_in(parts: Sequence[bytes]) -> List[Unit]:
     found: List[Unit] = []
-    for part in all_contents(module, NAME):
+    for part in parts:
         reader = Reader(part)
         while reader.place < reader.end:
             read_row(reader, found)
@@ -144,7 +149,11 @@ class Resolver:
                    and label.symbol == named.name]
         if not own:
             own = [label for label in self.labels if label.named[:3] == named[:3] and label.sort == "one" and label.named.where != BY_WORDS]
-        copies = [unit for unit in self.units if any(self.is_copy(one, named, own) and not one.is_kept for one in unit.has)]
+            elsewhere = True
+        else:
+            elsewhere = False  # whether the line stands in units that don't define the function
+        copies = [unit for unit in self.units if any((self.is_copy(one, named, own, unit) or elsewhere and self.is_called(one, named))
+                                                     and not one.is_kept for one in unit.has)]
         if not own and not copies and not any(self.is_called(one, named) for unit in self.units for one in unit.has):
             return  # nothing that was compiled by blade-cc has it
         self.found.answered.add(named)
@@ -157,17 +166,22 @@ class Resolver:
             self.settle(named, own)
 
     def is_called(self, one: Has, named: Named) -> bool:
-        return named.name in (one.symbol, one.name)
+        if named.name in (one.symbol, one.name):
+            return True
+        # Without DWARF nothing but the symbol tells the name.
+        return one.symbol == one.name and is_symbol_of(one.symbol, named.name.rpartition("::")[2])
 
-    def is_copy(self, one: Has, named: Named, own: Sequence[Label]) -> bool:
+    def is_copy(self, one: Has, named: Named, own: Sequence[Label], unit: Unit) -> bool:
         """Whether a function of a unit is, by its symbol or its place in the source, the one that a label means."""
         if not own:
             return self.is_called(one, named)
         symbols = {label.symbol for label in own if label.sort != "local"}
         if one.sort != "local" and one.symbol in symbols:
             return True
-        places = self.places(own)
-        return self.is_called(one, named) and (not one.place or one.place in places or "" in places)
+        # One header may have two paths, and what was preprocessed has none.
+        places = {os.path.basename(place) for place in self.places(own)}
+        is_unknown = named.where == BY_WORDS or not one.place or "" in places or unit.path.endswith((".i", ".ii"))
+        return self.is_called(one, named) and (is_unknown or os.path.basename(one.place) in places)
 
     def places(self, own: Sequence[Label]) -> Set[str]:
         symbols = {label.symbol for label in own}
