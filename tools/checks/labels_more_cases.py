@@ -1,0 +1,179 @@
+"""Further programs for tools/checks/labels, written by somebody who did not write the guards: other options of the compiler and the linker, other names for one
+function, units of other compilers, C++, LLVM's bitcode, archives, and marked values. MORE has those whose answer is no or an error, RIGHT has programs whose
+labels are all right. Licence: public domain (CC0)."""
+from typing import Dict, Optional, Tuple
+
+from labels_cases import CALLER, COPY, HEAD, LABELLED, NO, TABLE, YES, Answer, Case
+
+REFUSED = (Answer(1, "constant-time no"), Answer(5, "error: "))  # either keeps the label from getting lost
+BUILD = (Answer(3, "error"),)  # clang or the linker refuses it
+USAGE = (Answer(2, "error: "),)
+SAME = "unsigned f(unsigned k) { return k; }\n"
+LOOK = "unsigned g(unsigned i) { return table[f(i) & 255]; }\n"
+TWO_WORDS = ("arg 1\narg 3\n", "arg 1\narg 9\n")
+IN_MEMORY = ("arg 131072\nmemory 0 131072 03000000\n", "arg 131072\nmemory 0 131072 09000000\n")
+WORDS = "--label 'secret-param f 0'"
+PLAIN = "${CLANG:-clang} --target=wasm32 -mcpu=mvp -O2"  # a compiler that knows nothing of labels
+HEADERS = "-isystem $COMPANIONS/include"
+
+
+def more(name: str, files: Dict[str, str], command: str = "blade-cc a.c -o out/", right: Tuple[Answer, ...] = REFUSED, export: str = "g",
+         starts: Optional[Tuple[str, str]] = ("arg 3\n", "arg 9\n")) -> Case:
+    return Case(name, right, files, command, export, starts)
+
+
+MORE = [
+    # Other names for one function.
+    more("words-export-name", {"a.c": TABLE + "__attribute__((export_name(\"lookup\"))) " + SAME + LOOK},
+         "blade-cc --label 'secret-param lookup 0' --export g a.c -o out/"),
+    more("words-alias", {"a.c": TABLE + SAME + "unsigned q(unsigned k) __attribute__((alias(\"f\")));\n" + LOOK},
+         "blade-cc --label 'secret-param q 0' a.c -o out/"),
+    more("words-alias-called", {"a.c": TABLE + SAME + "unsigned q(unsigned k) __attribute__((alias(\"f\")));\n" + LOOK.replace("f(i)", "q(i)")},
+         "blade-cc --label 'secret-param q 0' a.c -o out/"),
+    more("words-demangled", {"a.cc": TABLE + "int f(int k) { return k; }\nextern \"C\" unsigned g(int i) { return table[f(i) & 255]; }\n"},
+         "blade-cc --label 'secret-param f(int) 0' a.cc -o out/"),
+    more("words-demangled-method", {"a.cc": TABLE + "struct s { int f(int k) const; int p; };\nint s::f(int k) const { return k; }\n"
+                                    "extern \"C\" unsigned g(int i) { s x = {1}; return table[x.f(i) & 255]; }\n"},
+         "blade-cc --label 'secret-param s::f(int)_const 1' a.cc -o out/; blade-cc --label 'secret-param _ZNK1s1fEi 0' a.cc -o out/"),
+    more("words-namespace-demangled", {"a.cc": TABLE + "namespace n { int f(int k) { return k; } }\nextern \"C\" unsigned g(int i) { return table[n::f(i) & 255]; }\n"},
+         "blade-cc --label 'secret-param n::f(int) 0' a.cc -o out/"),
+    more("words-asm-name", {"a.c": TABLE + "unsigned f(unsigned k) __asm__(\"other\");\n" + SAME + LOOK}, "blade-cc --label 'secret-param other k' a.c -o out/"),
+    more("extname-pragma", {"a.c": HEAD + TABLE + "#pragma redefine_extname f other\n" + LABELLED + SAME + LOOK}),
+    more("renamed-by-define", {"a.c": HEAD + TABLE + LABELLED + SAME + LOOK}, "blade-cc -Df=my_f a.c -o out/"),
+    more("alias-flatten", {"a.c": HEAD + TABLE + LABELLED + "unsigned f(unsigned k) { return k & 255; }\nunsigned q(unsigned k) __attribute__((alias(\"f\")));\n"
+                           "__attribute__((flatten)) unsigned g(unsigned i) { return table[q(i)]; }\n"}),
+    more("pointer-flatten", {"a.c": HEAD + TABLE + LABELLED + "unsigned f(unsigned k) { return k & 255; }\nstatic unsigned (*const way)(unsigned) = f;\n"
+                             "__attribute__((flatten)) unsigned g(unsigned i) { return table[way(i)]; }\n"}),
+    more("table-of-pointers", {"a.c": HEAD + TABLE + LABELLED + SAME + "static unsigned other(unsigned k) { return k + 1; }\n"
+                               "static unsigned (*const ways[2])(unsigned) = {f, other};\nunsigned g(unsigned i) { return table[ways[0](i) & 255]; }\n"}),
+    more("callback", {"a.c": HEAD + TABLE + LABELLED + SAME + "static unsigned twice(unsigned (*way)(unsigned), unsigned x) { return way(way(x)); }\n"
+                      "unsigned g(unsigned i) { return table[twice(f, i) & 255]; }\n"}, "blade-cc -O3 a.c -o out/"),
+    more("alias-macro", {"a.c": HEAD + TABLE + "unsigned q(unsigned k);\nBLADE_SECRET_PARAM(q, k);\n" + SAME +
+                         "unsigned q(unsigned k) __attribute__((alias(\"f\")));\n" + LOOK.replace("f(i)", "q(i)")}),
+    # Functions that clang knows by name, in a unit that doesn't see the label.
+    more("builtin-caller-unlabelled", {"a.c": HEAD + "int abs(int k);\nBLADE_SECRET_PARAM(abs, k);\nint abs(int k) { int m = k >> 31; return (k ^ m) - m; }\n",
+                                       "b.c": TABLE + "int abs(int);\nunsigned g(int i) { return table[abs(i) & 255]; }\n"}, "blade-cc a.c b.c -o out/"),
+    more("builtin-words-one-unit", {"a.c": "int ffs(int k) { int n = 0; for (int b = 32; b-- > 0;) { int s = -(k >> b & 1); n = ((b + 1) & s) | (n & ~s); } return n; }\n",
+                                    "b.c": TABLE + "int ffs(int);\nunsigned g(int i) { return table[ffs(i) & 255]; }\n"},
+         "blade-cc --label 'secret-param ffs k' -c a.c && blade-cc -c b.c && blade-cc a.o b.o --label 'secret-param ffs k' -o out/", starts=("arg 3\n", "arg 8\n")),
+    more("builtin-asm-name", {"a.c": HEAD + TABLE + "int size_of(int k) __asm__(\"abs\");\nBLADE_SECRET_PARAM(size_of, k);\n"
+                              "int size_of(int k) { int m = k >> 31; return (k ^ m) - m; }\nunsigned g(int i) { return table[size_of(i) & 255]; }\n"}),
+    more("builtin-prefix", {"a.c": HEAD + TABLE + "int abs(int k);\nBLADE_SECRET_PARAM(abs, k);\nint abs(int k) { int m = k >> 31; return (k ^ m) - m; }\n"
+                            "unsigned g(int i) { return table[__builtin_abs(i) & 255]; }\n"}),
+    # Units of other compilers.
+    more("plain-object-words", {"a.c": TABLE + SAME + LOOK}, f"{PLAIN} -c a.c -o a.o && blade-cc a.o --export f --export g {WORDS} -o out/"),
+    more("plain-object-instructions", {"a.c": TABLE + "unsigned f(unsigned k) { return k * 5 + 1; }\n" + LOOK},
+         f"{PLAIN} -c a.c -o a.o && blade-cc a.o --export f --export g {WORDS} -o out/"),
+    more("plain-object-macro", {"a.c": HEAD + TABLE + LABELLED + SAME + LOOK}, f"{PLAIN} -gdwarf-4 {HEADERS} -c a.c -o a.o && blade-cc a.o --export f --export g -o out/"),
+    more("plain-object-visible-cxx", {"a.cc": HEAD + TABLE + LABELLED + SAME + "extern \"C\" " + LOOK},
+         f"{PLAIN} -gdwarf-4 -fvisibility=default {HEADERS} -c a.cc -o a.o && blade-cc a.o -o out/"),
+    more("plain-header-copy", {"f.h": HEAD + "static inline unsigned f(unsigned k);\nBLADE_SECRET_PARAM(f, k);\nstatic inline unsigned f(unsigned k) { return k * 3; }\n",
+                               "a.c": "#include \"f.h\"\nunsigned h(unsigned k);\nBLADE_SECRET_PARAM(h, k);\nunsigned h(unsigned k) { return f(k) + 1; }\n",
+                               "b.c": TABLE + "#include \"f.h\"\n" + LOOK},
+         f"blade-cc -c a.c && {PLAIN} -gdwarf-4 -fvisibility=default {HEADERS} -c b.c -o b.o && blade-cc a.o b.o -o out/"),
+    more("plain-cxx-inline-copy", {"f.h": HEAD + "inline unsigned f(unsigned k);\nBLADE_SECRET_PARAM(f, k);\ninline unsigned f(unsigned k) { return k; }\n",
+                                   "a.cc": "#include \"f.h\"\nextern \"C\" { unsigned h(unsigned k);\nBLADE_SECRET_PARAM(h, k);\n"
+                                   "unsigned h(unsigned k) { return f(k) + 1; } }\n", "b.cc": TABLE + "#include \"f.h\"\nextern \"C\" " + LOOK},
+         f"blade-cc -c a.cc && {PLAIN} -gdwarf-4 -fvisibility=default {HEADERS} -c b.cc -o b.o && blade-cc a.o b.o -o out/"),
+    more("plain-strong-over-weak", {"a.c": HEAD + LABELLED + "__attribute__((weak)) " + SAME, "b.c": TABLE + SAME + LOOK},
+         f"blade-cc -c a.c && {PLAIN} -fvisibility=default -c b.c -o b.o && blade-cc a.o b.o -o out/"),
+    more("plain-bitcode-words", {"a.c": TABLE + SAME + LOOK}, f"{PLAIN} -flto -c a.c -o a.o && blade-cc a.o --export f --export g {WORDS} -o out/"),
+    more("plain-bitcode-macro", {"a.c": HEAD + TABLE + LABELLED + SAME + LOOK},
+         f"{PLAIN} -gdwarf-4 -flto {HEADERS} -c a.c -o a.o && blade-cc a.o --export f --export g -o out/"),
+    more("bitcode-without-lto", {"f.h": HEAD + LABELLED, "a.c": "#include \"f.h\"\n" + SAME, "b.c": "#include \"f.h\"\n" + TABLE + LOOK},
+         "blade-cc -emit-llvm -c a.c -o a.bc && blade-cc -emit-llvm -c b.c -o b.bc && blade-cc a.bc b.bc --export f --export g -o out/"),
+    more("assembler-of-plain", {"a.c": TABLE + SAME + LOOK}, f"{PLAIN} -fvisibility=default -S a.c -o a.s && blade-cc a.s {WORDS} -o out/"),
+    more("assembler-object", {"a.c": TABLE + SAME + LOOK}, f"{PLAIN} -fvisibility=default -S a.c -o a.s && blade-cc -c a.s -o a.o && blade-cc a.o {WORDS} -o out/"),
+    more("relocatable-mixed", {"a.c": HEAD + "unsigned h(unsigned k);\nBLADE_SECRET_PARAM(h, k);\nunsigned h(unsigned k) { return k * 7; }\n", "b.c": TABLE + SAME + LOOK},
+         f"blade-cc -c a.c && {PLAIN} -fvisibility=default -c b.c -o b.o && wasm-ld -r -o c.o a.o b.o && blade-cc c.o {WORDS} -o out/"),
+    more("relocatable-labels", {"a.c": HEAD + "unsigned first(unsigned x) { return x * 9; }\n" + LABELLED + TABLE + "unsigned f(unsigned k) { return table[k & 255]; }\n",
+                                "b.c": "unsigned zero(unsigned x) { return x * 11; }\n"},
+         "blade-cc -c a.c && blade-cc -c b.c && wasm-ld -r -o c.o b.o a.o && blade-cc c.o -o out/", export="f"),
+    more("plain-archive-member", {"a.c": HEAD + "unsigned h(unsigned k);\nBLADE_SECRET_PARAM(h, k);\nunsigned h(unsigned k) { return k * 7; }\n", "b.c": TABLE + SAME + LOOK},
+         f"blade-cc -c a.c && {PLAIN} -c b.c -o b.o && llvm-ar rcsT libb.a b.o && blade-cc a.o -L. -lb --export g --export h --export f {WORDS} -o out/"),
+    more("plain-muldefs", {"a.c": HEAD + LABELLED + SAME, "b.c": TABLE + SAME + LOOK},
+         f"blade-cc -c a.c && {PLAIN} -fvisibility=default -c b.c -o b.o && blade-cc -Wl,--allow-multiple-definition a.o b.o -o out/",
+         right=(*REFUSED, *BUILD)),
+    # One function in several units.
+    more("header-through-link", {"inc/f.h": "static inline unsigned f(unsigned k) { return k * 5 + 1; }\n",
+                                 "a.c": HEAD + "static inline unsigned f(unsigned k);\nBLADE_SECRET_PARAM(f, k);\n#include \"inc/f.h\"\nunsigned h(unsigned x) { return f(x) + 1; }\n",
+                                 "b.c": TABLE + "#include \"installed/f.h\"\n" + LOOK}, "ln -s inc installed && blade-cc --public-callers=f a.c b.c -o out/"),
+    more("header-prefix-map", {"f.h": "static inline unsigned f(unsigned k) { return k * 5 + 1; }\n",
+                               "a.c": HEAD + "static inline unsigned f(unsigned k);\nBLADE_SECRET_PARAM(f, k);\n#include \"f.h\"\nunsigned h(unsigned x) { return f(x) + 1; }\n",
+                               "b.c": TABLE + "#include \"f.h\"\n" + LOOK},
+         "blade-cc -c a.c && blade-cc -fdebug-prefix-map=$PWD=/src -c b.c && blade-cc --public-callers=f a.o b.o -o out/"),
+    more("preprocessed-without-lines", {"f.h": "static inline unsigned f(unsigned k) { return k * 5 + 1; }\n",
+                                        "a.c": HEAD + "static inline unsigned f(unsigned k);\nBLADE_SECRET_PARAM(f, k);\n#include \"f.h\"\n"
+                                        "unsigned h(unsigned x) { return f(x) + 1; }\n", "b.c": TABLE + "#include \"f.h\"\n" + LOOK},
+         "blade-cc -E -P b.c -o b.i && blade-cc --public-callers=f a.c b.i -o out/"),
+    more("namespaces-two-units", {"a.cc": HEAD + "namespace a { unsigned f(unsigned k);\nBLADE_SECRET_PARAM(f, k);\n}\nextern \"C\" unsigned h(unsigned x) { return x; }\n",
+                                  "b.cc": TABLE + "namespace a { " + SAME + "}\nextern \"C\" unsigned g(unsigned i) { return table[a::f(i) & 255]; }\n",
+                                  "c.cc": HEAD + "extern \"C\" { " + LABELLED + SAME + "}\n"}, "blade-cc a.cc b.cc c.cc -o out/"),
+    more("template-one-unit", {"f.h": "template <class T> unsigned f(T k) { return k * 5 + 1; }\n",
+                               "a.cc": "#include \"f.h\"\nextern \"C\" unsigned h(unsigned x) { return f(x) + 1; }\n",
+                               "b.cc": TABLE + "#include \"f.h\"\nextern \"C\" " + LOOK},
+         "blade-cc --label 'secret-param _Z1fIjEjT_ k' -c a.cc && blade-cc -c b.cc && blade-cc --public-callers=_Z1fIjEjT_ a.o b.o --label 'secret-param _Z1fIjEjT_ k' -o out/"),
+    more("lto-two-statics", {"a.c": HEAD + TABLE + "static unsigned f(unsigned k);\nBLADE_SECRET_PARAM(f, k);\nstatic unsigned f(unsigned k) { return k * 5 + 1; }\n"
+                             "unsigned h(unsigned k);\nunsigned g(unsigned key, unsigned i);\nBLADE_SECRET_PARAM(g, key);\n"
+                             "unsigned g(unsigned key, unsigned i) { return h(key) ^ table[f(i) & 255]; }\n",
+                             "b.c": "__attribute__((noinline)) static unsigned f(unsigned k) { return k * 3; }\nunsigned h(unsigned i) { return f(i); }\n"},
+         "blade-cc -flto --export g b.c a.c -o out/", starts=TWO_WORDS),
+    # What the optimiser makes of a labelled function.
+    more("specialised-beside", {"a.c": HEAD + TABLE + "static unsigned one(unsigned x) { return x + 1; }\nunsigned f(unsigned (*how)(unsigned), unsigned k);\n"
+                                "BLADE_SECRET_PARAM(f, k);\nunsigned f(unsigned (*how)(unsigned), unsigned k) { unsigned r = 0; for (int n = 0; n < 9; n++) r += how(k + n); return r; }\n"
+                                "unsigned g(unsigned key, unsigned (*how)(unsigned), unsigned i);\nBLADE_SECRET_PARAM(g, key);\n"
+                                "unsigned g(unsigned key, unsigned (*how)(unsigned), unsigned i) { return f(how, key) ^ table[f(one, i) & 255]; }\n"},
+         "blade-cc -O3 a.c -o out/", starts=("arg 1\narg 1\narg 3\n", "arg 1\narg 1\narg 9\n")),
+    more("const-attribute", {"a.c": HEAD + TABLE + "__attribute__((const)) " + LABELLED + SAME + LOOK}, "blade-cc -O3 -ffast-math -fmerge-all-constants a.c -o out/"),
+    more("pure-hot-O3", {"a.c": HEAD + TABLE + "__attribute__((pure, hot)) static inline " + LABELLED + "static inline " + SAME +
+                         "unsigned g(unsigned i) { unsigned r = 0; for (unsigned n = 0; n < 4; n++) r += table[f(i) & 255]; return r; }\n"}, "blade-cc -O3 a.c -o out/"),
+    more("restrict-out", {"a.c": HEAD + TABLE + "static void f(unsigned *restrict to, unsigned k);\nBLADE_SECRET_PARAM(f, k);\n"
+                          "static void f(unsigned *restrict to, unsigned k) { *to = k; }\nunsigned g(unsigned i) { unsigned x; f(&x, i); return table[x & 255]; }\n"},
+         "blade-cc -O3 a.c -o out/"),
+    more("struct-by-value", {"a.c": HEAD + TABLE + "struct s { unsigned k; };\nstatic struct s f(struct s v);\nBLADE_SECRET_PARAM(f, v);\nstatic struct s f(struct s v) { return v; }\n"
+                             "unsigned g(unsigned i) { struct s x = {i}; return table[f(x).k & 255]; }\n"}),
+    more("bit-fields", {"a.c": HEAD + TABLE + "struct s { unsigned a : 8, b : 24; };\nunsigned f(unsigned k);\nBLADE_SECRET_PARAM(f, k);\n"
+                        "unsigned f(unsigned k) { struct s x = {k, 1}; return x.a; }\nunsigned g(unsigned i) { return table[f(i)]; }\n"}, "blade-cc -Oz a.c -o out/"),
+    more("musttail", {"a.c": HEAD + TABLE + LABELLED + SAME + "unsigned g(unsigned i) { if (table[i & 1] > 5) return 1; __attribute__((musttail)) return f(i); }\n"},
+         right=(*REFUSED, *BUILD)),
+    more("old-style-definition", {"a.c": HEAD + TABLE + "unsigned f();\nBLADE_SECRET_PARAM(f, k);\nunsigned f(p, k) unsigned p; unsigned char k; { return p & 1 ? k : k; }\n"
+                                  "unsigned g(unsigned i) { return table[f(1, i)]; }\n"}, "blade-cc -std=c89 a.c -o out/"),
+    more("generic-selection", {"a.c": HEAD + TABLE + LABELLED + SAME + "static unsigned wide(unsigned long long k) { return (unsigned)k; }\n"
+                               "#define any(x) _Generic((x), unsigned long long: wide, unsigned: f)(x)\nunsigned g(unsigned i) { return table[any(i) & 255]; }\n"}),
+    more("computed-goto", {"a.c": HEAD + LABELLED + SAME + "unsigned g(unsigned i) { static const void *const to[] = {&&one, &&two}; goto *to[f(i) & 1];\none: return 7;\ntwo: return 9; }\n"},
+         starts=("arg 2\n", "arg 3\n")),
+    more("switch-table", {"a.c": HEAD + LABELLED + SAME + "unsigned g(unsigned i) { switch (f(i)) { case 0: return 4; case 1: return 17; case 2: return 3; case 3: return 99; } return 5; }\n"}),
+    more("divisor", {"a.c": HEAD + LABELLED + SAME + "unsigned g(unsigned i) { return 1000 / (f(i) | 1); }\n"}, "blade-cc -Os -fno-plt -ffunction-sections -Wl,--gc-sections a.c -o out/"),
+    more("lambda-words", {"a.cc": TABLE + "extern \"C\" unsigned g(unsigned i) { auto f = [](unsigned k) { return k; }; return table[f(i) & 255]; }\n"},
+         "blade-cc --label 'secret-param operator() k' a.cc -o out/"),
+    more("method-other-order", {"a.cc": TABLE + "struct s { unsigned f(unsigned key, unsigned other); unsigned p; };\n"
+                                "unsigned s::f(unsigned other, unsigned key) { return table[other & 255] ^ key; }\n"},
+         "blade-cc --label 'secret-param _ZN1s1fEjj key' a.cc -o out/", export="_ZN1s1fEjj", starts=("arg 0\narg 3\narg 1\n", "arg 0\narg 9\narg 1\n")),
+    more("letters-of-names", {"a.c": HEAD + TABLE + "unsigned f(unsigned key, unsigned a$);\nBLADE_SECRET_PARAM(f, key);\n"
+                              "unsigned f(unsigned a$, unsigned key) { return table[a$ & 255] ^ key; }\n"}, export="f", starts=("arg 3\narg 1\n", "arg 9\narg 1\n")),
+    more("label-behind-definition", {"a.c": HEAD + TABLE + SAME + LABELLED + LOOK}, "blade-cc -w -Wno-ignored-attributes a.c -o out/", right=(*REFUSED, *BUILD)),
+    more("module-of-clang", {"inc/f.h": HEAD + LABELLED + SAME.replace("unsigned f", "static inline unsigned f", 1).replace("static inline ", ""),
+                             "inc/module.modulemap": "module F { header \"f.h\" export * }\n", "a.c": "#include \"f.h\"\n" + TABLE + LOOK,
+                             "b.c": HEAD + "unsigned h(unsigned k);\nBLADE_SECRET_PARAM(h, k);\nunsigned h(unsigned k) { return k * 3; }\n"},
+         "blade-cc -fmodules -fmodules-cache-path=cache -fmodule-map-file=inc/module.modulemap -Iinc a.c b.c -o out/", right=(*REFUSED, *BUILD)),
+    # Marked values.
+    more("marked-128-bits", {"a.c": HEAD + TABLE + "unsigned g(unsigned __int128 x) { unsigned __int128 y = BLADE_SECRET(x); return table[(unsigned char)(y >> 64)]; }\n"},
+         starts=TWO_WORDS, right=(*REFUSED, *BUILD)),
+    more("marked-many-bits", {"a.c": HEAD + TABLE + "unsigned g(unsigned long long x) { unsigned _BitInt(96) w = (unsigned _BitInt(96))x << 64; w = BLADE_SECRET(w);\n"
+                              "return table[(unsigned char)(w >> 64)]; }\n"}, "blade-cc -std=c2x a.c -o out/", right=(*REFUSED, *BUILD)),
+    more("marked-assumed", {"a.c": HEAD + TABLE + "unsigned g(unsigned x) { unsigned y = BLADE_SECRET(x); if (y != x) __builtin_unreachable(); return table[y & 255]; }\n"}),
+    more("marked-stripped", {"a.c": HEAD + TABLE + "unsigned g(unsigned x) { return table[BLADE_SECRET(x) & 255]; }\nunsigned h(unsigned k) { return k * 3; }\n"},
+         "blade-cc -Wl,--strip-all --label 'secret-param h 0' a.c -o out/"),
+    more("marked-plain-stripped", {"a.c": HEAD + TABLE + "unsigned g(unsigned x) { return table[BLADE_SECRET(x) & 255]; }\n",
+                                   "b.c": "unsigned h(unsigned k) { return k * 3; }\n"},
+         f"{PLAIN} {HEADERS} -fvisibility=default -c a.c -o a.o && blade-cc -Wl,-s --label 'secret-param h 0' b.c a.o -o out/"),
+    more("marked-bool", {"a.c": HEAD + TABLE + "unsigned g(unsigned x) { _Bool y = x & 1; y = BLADE_SECRET(y); return table[y]; }\n"}, starts=("arg 0\n", "arg 1\n"), right=NO),
+    # Memories and what is made of modules.
+    more("ledger-of-secrets", {"a.c": "#include \"ledger.h\"\n" + HEAD + TABLE + "BLADE_SECRET_MEMORY;\nunsigned g(unsigned *p) { return table[*p & 255]; }\n"},
+         "blade-cc --ledger a.c -o out/", starts=None, right=NO),
+    more("old-folder", {"a.c": HEAD + LABELLED + "unsigned f(unsigned k) { return k * 3; }\n", "b.c": HEAD + TABLE + LABELLED + "unsigned f(unsigned k) { return table[k & 255]; }\n"},
+         "blade-cc a.c -o out/ && cp b.c a.c && blade-cc a.c -o out/", export="f", right=NO),
+    more("builtin-rules-of-make", {"a.c": HEAD + TABLE + LABELLED + "unsigned f(unsigned k) { return k * 3; }\n" + LOOK}, "make -s CC=blade-cc CFLAGS=-O1 a",
+         right=(Answer(2, "passes a public value"), Answer(2, "constant-time no"))),
+]
+RIGHT = []
