@@ -3,14 +3,14 @@ function, units of other compilers, C++, LLVM's bitcode, archives, and marked va
 labels are all right. Licence: public domain (CC0)."""
 from typing import Dict, Optional, Tuple
 
-from labels_cases import CALLER, COPY, HEAD, LABELLED, NO, TABLE, YES, Answer, Case
+from labels_cases import COPY, HEAD, LABELLED, NO, TABLE, YES, Answer, Case
 
 REFUSED = (Answer(1, "constant-time no"), Answer(5, "error: "))  # either keeps the label from getting lost
 BUILD = (Answer(3, "error"),)  # clang or the linker refuses it
-USAGE = (Answer(2, "error: "),)
 SAME = "unsigned f(unsigned k) { return k; }\n"
 LOOK = "unsigned g(unsigned i) { return table[f(i) & 255]; }\n"
 TWO_WORDS = ("arg 1\narg 3\n", "arg 1\narg 9\n")
+H = "unsigned h(unsigned k);\nBLADE_SECRET_PARAM(h, k);\nunsigned h(unsigned k) { return f(k) + 1; }\n"
 IN_MEMORY = ("arg 131072\nmemory 0 131072 03000000\n", "arg 131072\nmemory 0 131072 09000000\n")
 WORDS = "--label 'secret-param f 0'"
 PLAIN = "${CLANG:-clang} --target=wasm32 -mcpu=mvp -O2"  # a compiler that knows nothing of labels
@@ -58,8 +58,6 @@ MORE = [
          "blade-cc --label 'secret-param ffs k' -c a.c && blade-cc -c b.c && blade-cc a.o b.o --label 'secret-param ffs k' -o out/", starts=("arg 3\n", "arg 8\n")),
     more("builtin-asm-name", {"a.c": HEAD + TABLE + "int size_of(int k) __asm__(\"abs\");\nBLADE_SECRET_PARAM(size_of, k);\n"
                               "int size_of(int k) { int m = k >> 31; return (k ^ m) - m; }\nunsigned g(int i) { return table[size_of(i) & 255]; }\n"}),
-    more("builtin-prefix", {"a.c": HEAD + TABLE + "int abs(int k);\nBLADE_SECRET_PARAM(abs, k);\nint abs(int k) { int m = k >> 31; return (k ^ m) - m; }\n"
-                            "unsigned g(int i) { return table[__builtin_abs(i) & 255]; }\n"}),
     # Units of other compilers.
     more("plain-object-words", {"a.c": TABLE + SAME + LOOK}, f"{PLAIN} -c a.c -o a.o && blade-cc a.o --export f --export g {WORDS} -o out/"),
     more("plain-object-instructions", {"a.c": TABLE + "unsigned f(unsigned k) { return k * 5 + 1; }\n" + LOOK},
@@ -96,16 +94,15 @@ MORE = [
          right=(*REFUSED, *BUILD)),
     # One function in several units.
     more("header-through-link", {"inc/f.h": "static inline unsigned f(unsigned k) { return k * 5 + 1; }\n",
-                                 "a.c": HEAD + "static inline unsigned f(unsigned k);\nBLADE_SECRET_PARAM(f, k);\n#include \"inc/f.h\"\nunsigned h(unsigned x) { return f(x) + 1; }\n",
-                                 "b.c": TABLE + "#include \"installed/f.h\"\n" + LOOK}, "ln -s inc installed && blade-cc --public-callers=f a.c b.c -o out/"),
+                                 "a.c": HEAD + "static inline unsigned f(unsigned k);\nBLADE_SECRET_PARAM(f, k);\n#include \"inc/f.h\"\n" + H,
+                                 "b.c": TABLE + "#include \"installed/f.h\"\n" + LOOK}, "ln -s inc installed && blade-cc a.c b.c -o out/"),
     more("header-prefix-map", {"f.h": "static inline unsigned f(unsigned k) { return k * 5 + 1; }\n",
-                               "a.c": HEAD + "static inline unsigned f(unsigned k);\nBLADE_SECRET_PARAM(f, k);\n#include \"f.h\"\nunsigned h(unsigned x) { return f(x) + 1; }\n",
+                               "a.c": HEAD + "static inline unsigned f(unsigned k);\nBLADE_SECRET_PARAM(f, k);\n#include \"f.h\"\n" + H,
                                "b.c": TABLE + "#include \"f.h\"\n" + LOOK},
-         "blade-cc -c a.c && blade-cc -fdebug-prefix-map=$PWD=/src -c b.c && blade-cc --public-callers=f a.o b.o -o out/"),
+         "blade-cc -c a.c && blade-cc -fdebug-prefix-map=$PWD=/src -c b.c && blade-cc a.o b.o -o out/"),
     more("preprocessed-without-lines", {"f.h": "static inline unsigned f(unsigned k) { return k * 5 + 1; }\n",
-                                        "a.c": HEAD + "static inline unsigned f(unsigned k);\nBLADE_SECRET_PARAM(f, k);\n#include \"f.h\"\n"
-                                        "unsigned h(unsigned x) { return f(x) + 1; }\n", "b.c": TABLE + "#include \"f.h\"\n" + LOOK},
-         "blade-cc -E -P b.c -o b.i && blade-cc --public-callers=f a.c b.i -o out/"),
+                                        "a.c": HEAD + "static inline unsigned f(unsigned k);\nBLADE_SECRET_PARAM(f, k);\n#include \"f.h\"\n" + H, "b.c": TABLE + "#include \"f.h\"\n" + LOOK},
+         "blade-cc -E -P b.c -o b.i && blade-cc a.c b.i -o out/"),
     more("namespaces-two-units", {"a.cc": HEAD + "namespace a { unsigned f(unsigned k);\nBLADE_SECRET_PARAM(f, k);\n}\nextern \"C\" unsigned h(unsigned x) { return x; }\n",
                                   "b.cc": TABLE + "namespace a { " + SAME + "}\nextern \"C\" unsigned g(unsigned i) { return table[a::f(i) & 255]; }\n",
                                   "c.cc": HEAD + "extern \"C\" { " + LABELLED + SAME + "}\n"}, "blade-cc a.cc b.cc c.cc -o out/"),
@@ -137,7 +134,7 @@ MORE = [
     more("musttail", {"a.c": HEAD + TABLE + LABELLED + SAME + "unsigned g(unsigned i) { if (table[i & 1] > 5) return 1; __attribute__((musttail)) return f(i); }\n"},
          right=(*REFUSED, *BUILD)),
     more("old-style-definition", {"a.c": HEAD + TABLE + "unsigned f();\nBLADE_SECRET_PARAM(f, k);\nunsigned f(p, k) unsigned p; unsigned char k; { return p & 1 ? k : k; }\n"
-                                  "unsigned g(unsigned i) { return table[f(1, i)]; }\n"}, "blade-cc -std=c89 a.c -o out/"),
+                                  "unsigned g(unsigned i) { return table[f(1, i)]; }\n"}, "blade-cc -std=gnu89 a.c -o out/"),
     more("generic-selection", {"a.c": HEAD + TABLE + LABELLED + SAME + "static unsigned wide(unsigned long long k) { return (unsigned)k; }\n"
                                "#define any(x) _Generic((x), unsigned long long: wide, unsigned: f)(x)\nunsigned g(unsigned i) { return table[any(i) & 255]; }\n"}),
     more("computed-goto", {"a.c": HEAD + LABELLED + SAME + "unsigned g(unsigned i) { static const void *const to[] = {&&one, &&two}; goto *to[f(i) & 1];\none: return 7;\ntwo: return 9; }\n"},
@@ -175,5 +172,99 @@ MORE = [
          "blade-cc a.c -o out/ && cp b.c a.c && blade-cc a.c -o out/", export="f", right=NO),
     more("builtin-rules-of-make", {"a.c": HEAD + TABLE + LABELLED + "unsigned f(unsigned k) { return k * 3; }\n" + LOOK}, "make -s CC=blade-cc CFLAGS=-O1 a",
          right=(Answer(2, "passes a public value"), Answer(2, "constant-time no"))),
+    # A second wave.
+    more("words-two-statics-one-compiled", {"a.c": "static unsigned f(unsigned k) { return k * 3; }\nunsigned h(unsigned k) { return f(k); }\n",
+                                            "b.c": TABLE + "static unsigned f(unsigned k) { return k * 5 + 1; }\n" + LOOK},
+         "blade-cc --label 'secret-param f k secret-param h k' -c a.c && blade-cc -c b.c && blade-cc a.o b.o --label 'secret-param f k secret-param h k' -o out/"),
+    more("bitcode-beside-pointer", {"f.h": HEAD + LABELLED, "a.c": "#include \"f.h\"\n" + SAME,
+                                    "b.c": "#include \"f.h\"\n" + TABLE + "unsigned (*volatile way)(unsigned) = f;\nunsigned g(unsigned key, unsigned i);\nBLADE_SECRET_PARAM(g, key);\n"
+                                    "unsigned g(unsigned key, unsigned i) { return way(key) ^ table[f(i) & 255]; }\n"},
+         "blade-cc -emit-llvm -c a.c -o a.bc && blade-cc -emit-llvm -c b.c -o b.bc && blade-cc a.bc b.bc --export f --export g -o out/", starts=TWO_WORDS),
+    more("thin-lto-static", {"a.c": HEAD + TABLE + "static " + LABELLED + "static " + SAME + LOOK, "b.c": "unsigned h(unsigned i) { return i * 3; }\n"},
+         "blade-cc -flto=thin --export g --export h a.c b.c -o out/", right=(*REFUSED, *BUILD)),
+    more("lto-caller-unlabelled", {"a.c": HEAD + LABELLED + SAME, "b.c": TABLE + "unsigned f(unsigned k);\n" + LOOK}, "blade-cc -flto --export g a.c b.c -o out/"),
+    more("flatten-cxx-destructor", {"a.cc": HEAD + TABLE + "extern \"C\" { " + LABELLED + "unsigned f(unsigned k) { return k & 255; } }\nextern volatile int v;\nvolatile int v;\n"
+                                    "struct s { ~s(); };\n__attribute__((noinline)) s::~s() { v = 1; }\n"
+                                    "extern \"C\" __attribute__((flatten)) unsigned g(unsigned i) { s x; return table[f(i)]; }\n"}, "blade-cc -fexceptions a.cc -o out/",
+         right=(*REFUSED, *BUILD)),
+    more("attributor-copies", {"a.cc": HEAD + TABLE + "extern \"C\" { inline unsigned f(unsigned k);\nBLADE_SECRET_PARAM(f, k);\n}\ninline unsigned f(unsigned k) { return k; }\n"
+                               "unsigned (*volatile way)(unsigned) = f;\nextern \"C\" { unsigned g(unsigned key, unsigned i);\nBLADE_SECRET_PARAM(g, key);\n"
+                               "unsigned g(unsigned key, unsigned i) { return way(key) ^ table[f(i) & 255]; } }\n"},
+         "blade-cc -O3 -mllvm -attributor-enable=all -mllvm -attributor-allow-deep-wrappers a.cc -o out/", starts=TWO_WORDS),
+    more("specialised-beside-static", {"a.c": HEAD + TABLE + "static unsigned one(unsigned x) { return x + 1; }\nstatic unsigned f(unsigned (*how)(unsigned), unsigned k);\n"
+                                       "BLADE_SECRET_PARAM(f, k);\nstatic unsigned f(unsigned (*how)(unsigned), unsigned k) { unsigned r = 0; for (int n = 0; n < 9; n++) r += how(k + n); return r; }\n"
+                                       "unsigned g(unsigned key, unsigned (*how)(unsigned), unsigned i);\nBLADE_SECRET_PARAM(g, key);\n"
+                                       "unsigned g(unsigned key, unsigned (*how)(unsigned), unsigned i) { return f(how, key) ^ table[f(one, i) & 255]; }\n"},
+         "blade-cc -O2 a.c -o out/", starts=("arg 1\narg 1\narg 3\n", "arg 1\narg 1\narg 9\n")),
+    more("compressed-places", {"a.c": HEAD + TABLE + "unsigned o(unsigned x) { return x + table[x & 7]; }\nunsigned p(unsigned x) { return x * 9; }\n" + LABELLED +
+                               "unsigned f(unsigned k) { return table[k & 255]; }\n"}, "blade-cc -Wl,--compress-relocations -Wl,--strip-debug a.c -o out/", export="f",
+         right=(*REFUSED, *BUILD)),
+    more("archive-two-members-one-name", {"one/mem.c": "int unused1(void) { return 1; }\n", "two/mem.c": HEAD + "BLADE_SECRET_MEMORY;\nint unused2(void) { return 1; }\n",
+                                          "b.c": HEAD + "unsigned h(unsigned k);\nBLADE_SECRET_PARAM(h, k);\nunsigned h(unsigned k) { return k * 3; }\n" + TABLE +
+                                          "unsigned g(unsigned *p) { return table[p[0] & 255]; }\n"},
+         "blade-cc -c b.c && blade-cc -c one/mem.c -o one/mem.o && blade-cc -c two/mem.c -o two/mem.o && llvm-ar qcs libm.a one/mem.o two/mem.o && "
+         "blade-cc b.o libm.a -o out/", starts=IN_MEMORY),
+    more("archive-cxx-stripped", {"labels.cc": HEAD + LABELLED + "int unused(void) { return 1; }\n", "a.cc": TABLE + "unsigned f(unsigned k) { return table[k & 255]; }\n" +
+                                  HEAD + "extern \"C\" { unsigned h(unsigned k);\nBLADE_SECRET_PARAM(h, k);\nunsigned h(unsigned k) { return k * 3; } }\n"},
+         "blade-cc -c a.cc && blade-cc -c labels.cc && llvm-ar rcs libl.a labels.o && blade-cc -Wl,-s a.o libl.a -o out/", export="_Z1fj"),
+    more("archive-words-unlinked", {"mem.c": "int unused(void) { return 1; }\n", "b.c": HEAD + "unsigned h(unsigned k);\nBLADE_SECRET_PARAM(h, k);\n"
+                                    "unsigned h(unsigned k) { return k * 3; }\n" + TABLE + "unsigned g(unsigned *p) { return table[p[0] & 255]; }\n"},
+         "blade-cc -c b.c && blade-cc --label 'secret-memory 0' -c mem.c && llvm-ar rcs libm.a mem.o && blade-cc b.o libm.a -o out/", starts=IN_MEMORY),
+    more("words-at-compile-alone", {"a.c": TABLE + SAME + LOOK}, "blade-cc --label 'secret-param f k' -c a.c && blade-cc a.o -o out/"),
+    more("old-object", {"f.h": "unsigned f(unsigned k);\n", "a.c": "#include \"f.h\"\n" + TABLE + SAME + LOOK, "b.c": "#include \"f.h\"\nunsigned h(unsigned x) { return f(x); }\n",
+                        "new.h": HEAD + LABELLED}, "blade-cc -c a.c && cp new.h f.h && blade-cc -c b.c && blade-cc a.o b.o -o out/", right=COPY),
+    more("strip-after", {"a.c": HEAD + TABLE + LABELLED + "unsigned f(unsigned k) { return table[k & 255]; }\n"},
+         "blade-cc --no-fail a.c -o out/ > /dev/null 2>&1; llvm-strip out/a.wasm -o x.wasm && $BLADE harden x.img x.json x.wasm", export="f",
+         right=(Answer(0, "constant-time no"), Answer(3, "error"))),
+    more("asm-call", {"a.c": HEAD + TABLE + LABELLED + SAME + "unsigned g(unsigned i) { unsigned r; __asm__ volatile(\"local.get %1\\n\\tcall f\\n\\tlocal.set %0\" : \"=r\"(r) : \"r\"(i));\n"
+                      "return table[r & 255]; }\n"}),
+    more("varargs", {"a.c": HEAD + TABLE + "unsigned f(unsigned k, ...);\nBLADE_SECRET_PARAM(f, k);\nunsigned f(unsigned k, ...) { return k; }\nunsigned g(unsigned i) { return table[f(i, 7) & 255]; }\n"}),
+    more("recursion-public", {"a.c": HEAD + TABLE + "unsigned f(unsigned k, unsigned n);\nBLADE_SECRET_PARAM(f, k);\nunsigned f(unsigned k, unsigned n) { return n ? f(n, n - 1) ^ k : k; }\n"
+                              "unsigned g(unsigned i) { return table[f(i, 3) & 255]; }\n"}),
+    more("constructor-words", {"a.cc": TABLE + "struct s { unsigned v; s(unsigned k); };\ns::s(unsigned k) : v(k) {}\nextern \"C\" unsigned g(unsigned i) { return table[s(i).v & 255]; }\n"},
+         "blade-cc --label 'secret-param _ZN1sC2Ej k' a.cc -o out/"),
+    more("operator-overload", {"a.cc": HEAD + TABLE + "struct w { unsigned v; };\nstatic unsigned operator^(w a, unsigned k);\nBLADE_SECRET_PARAM(operator^, k);\n"
+                               "static unsigned operator^(w a, unsigned k) { return (a.v ^ k) ^ a.v; }\nextern \"C\" unsigned g(unsigned i) { return table[(w{5} ^ i) & 255]; }\n"},
+         "blade-cc a.cc -o out/"),
+    more("default-argument", {"a.cc": HEAD + TABLE + "unsigned f(unsigned p, unsigned k = 5);\nBLADE_SECRET_PARAM(f, k);\nunsigned f(unsigned p, unsigned k) { return k ^ p ^ p; }\n"
+                              "extern \"C\" unsigned g(unsigned i) { return table[f(i, i) & 255] + f(i); }\n"}, "blade-cc a.cc -o out/"),
+    more("virtual-method", {"a.cc": TABLE + "struct b { virtual unsigned f(unsigned k); unsigned p; };\nunsigned b::f(unsigned k) { return k; }\n"
+                            "extern \"C\" unsigned g(unsigned i) { b x; b *y = &x; return table[y->f(i) & 255]; }\n"}, "blade-cc -fno-rtti --label 'secret-param _ZN1b1fEj k' a.cc -o out/",
+         right=(*REFUSED, *BUILD)),
+    more("builtins-mixed", {"a.c": HEAD + TABLE + LABELLED + "unsigned f(unsigned k) { return __builtin_bitreverse32(__builtin_bitreverse32(k)); }\n"
+                            "unsigned g(unsigned i) { return __builtin_expect(f(i) > 4, 1) ? table[f(i) & 255] : 3; }\n"}),
+    more("words-in-file", {"a.c": TABLE + SAME + LOOK, "words": "--label 'secret-param f k'\n-O3\n"}, "blade-cc @words a.c -o out/"),
+    more("vault-look-up", {"a.c": "#include \"vault.h\"\n" + TABLE + "unsigned g(unsigned i) { (void)i; return 1; }\n" + HEAD + LABELLED + SAME + LOOK.replace("g(", "h(")},
+         "blade-cc --vault a.c -o out/", export="h"),
 ]
-RIGHT = []
+WORK = "unsigned f(unsigned k) { return (k << 3 | k >> 29) * 5 + 1; }\n"
+ENTRY = "unsigned g(unsigned k);\nBLADE_SECRET_PARAM(g, k);\nunsigned g(unsigned k) { return f(k ^ 7); }\n"
+
+
+def right(name: str, files: Dict[str, str], command: str = "blade-cc a.c -o out/") -> Case:
+    return Case(name, YES, files, command, "g", None)
+
+
+RIGHT = [
+    right("right-c89", {"a.c": HEAD + LABELLED + WORK + ENTRY}, "blade-cc -std=c89 a.c -o out/"),
+    right("right-words-of-kernels", {"a.c": "#define noinline __attribute__((__noinline__))\n" + HEAD + LABELLED + "noinline " + WORK + ENTRY}),
+    right("right-call-in-dead-code", {"a.c": HEAD + "static const int debug = 0;\n" + LABELLED + WORK + ENTRY.replace("return f", "if (debug) f(1);\n    return 3 + f") +
+                                      "unsigned h(unsigned i) { if (debug) return f(i); return i * 3; }\n"}),
+    right("right-recursion", {"a.c": HEAD + "unsigned f(unsigned k, unsigned n);\nBLADE_SECRET_PARAM(f, k);\nunsigned f(unsigned k, unsigned n) { return n ? f(k >> 1, n - 1) ^ k : k; }\n"}),
+    right("right-operator", {"a.cc": HEAD + "struct w { unsigned v; };\nunsigned operator^(w a, unsigned k);\nBLADE_SECRET_PARAM(operator^, k);\n"
+                             "unsigned operator^(w a, unsigned k) { return a.v * 3 ^ k; }\n"}, "blade-cc a.cc -o out/"),
+    right("right-units-lto", {"f.h": HEAD + LABELLED, "a.c": "#include \"f.h\"\n" + WORK, "b.c": "#include \"f.h\"\n" + ENTRY}, "blade-cc -flto --export g a.c b.c -o out/"),
+    right("right-pointers", {"a.c": HEAD + LABELLED + WORK + "static unsigned (*const ways[2])(unsigned) = {f, f};\n" + ENTRY.replace("f(k", "ways[k * 0](k")}),
+    right("right-memory", {"a.c": HEAD + "BLADE_SECRET_MEMORY;\n" + LABELLED + WORK + "unsigned g(const unsigned *p, unsigned n) { unsigned r = 0; for (unsigned i = 0; i < n; i++) r ^= f(p[i]);\n"
+                           "return r; }\n"}),
+    right("right-marker", {"a.c": HEAD + LABELLED + WORK + "unsigned g(unsigned i) { return f(BLADE_SECRET(i)) ^ i; }\n"}),
+    right("right-plain-beside", {"a.c": HEAD + LABELLED + WORK + ENTRY, "b.c": "unsigned sum(const unsigned *p, unsigned n) { unsigned r = 0; while (n--) r += *p++; return r; }\n"},
+          f"{PLAIN} -c b.c -o b.o && blade-cc a.c b.o --export g --export f --export sum -o out/"),
+    right("right-archive", {"f.h": HEAD + LABELLED, "a.c": "#include \"f.h\"\n" + WORK, "b.c": "#include \"f.h\"\n" + ENTRY},
+          "blade-cc -c a.c && blade-cc -c b.c && llvm-ar rcs liba.a a.o && blade-cc b.o -L. -la -o out/"),
+    right("right-self-test", {"a.c": HEAD + LABELLED + WORK + ENTRY + "unsigned test(void) { return f(1) == 13; }\n"}, "blade-cc --public-callers=f a.c -o out/"),
+    right("right-two-statics", {"a.c": HEAD + "static " + LABELLED + "static " + WORK + ENTRY, "b.c": TABLE + "static unsigned f(unsigned k) { return table[k & 255]; }\n"
+                                "unsigned h(unsigned i) { return f(i); }\n"}, "blade-cc a.c b.c -o out/"),
+    right("right-loop", {"a.c": HEAD + LABELLED + WORK + "unsigned g(unsigned k, unsigned n);\nBLADE_SECRET_PARAM(g, k);\n"
+                         "unsigned g(unsigned k, unsigned n) { unsigned a = k; while (n--) a = f(a) + n; return a; }\n"}, "blade-cc -O3 a.c -o out/"),
+]
