@@ -18,6 +18,7 @@ from ..formats.module import FUNCTION, GLOBAL, FuncType, Module
 
 NAME = "blade.secrets"
 MASK = re.compile(r"blade_secret_mask_(?:32|64)(?:[._]\d+)?")
+MOST_LINES, MOST_ERRORS = 4096, 50
 INCLUDED = "<built-in>"  # what clang calls the unit in a file that is named by -include: that goes to all units
 NOTHING = "nothing is declared secret: BLADE_SECRET_PARAM or BLADE_SECRET_MEMORY of blade.h, or words; --unlabelled where that is meant"
 KEEP = "so keep it by __attribute__((noinline)), or declare the caller's parameter"
@@ -48,6 +49,8 @@ def read_lines(lines: Sequence[str]) -> List[Declared]:
     found: Dict[Tuple[str, ...], Set[str]] = {}
     for line in lines:
         parts = line.split("\t")
+        if len(found) > MOST_LINES:
+            raise Bad(f"{NAME}: more than {MOST_LINES} lines")
         if len(parts) != 5 or parts[0] not in KINDS:
             raise Bad(f"{NAME}: a line that blade.h doesn't write: {line!r}")
         found.setdefault(tuple(parts[:4]), set()).add(parts[4])
@@ -67,14 +70,14 @@ def lines_in(data: bytes) -> List[str]:
 
 def left_out(module: Module, lines: Sequence[str]) -> List[str]:
     """What stands in units that the linker left out and yet speaks of the module: it would be public in silence. The lines are those of all units."""
-    kept, told = set(declared(module)), []
+    kept, told, names = set(declared(module)), [], names_of(module)
     for one in read_lines(lines):
         if one in kept:
             continue
         if one.kind == "secret-memory":
             told.append(f"{one.where}: error: the memory is declared secret here, in a unit of a library that isn't linked: declare it beside "
                         "a function that is used, or by --label 'secret-memory 0' [blade-label]")
-        elif KINDS[one.kind].names[0] == "function" and named(module, one.name):
+        elif KINDS[one.kind].names[0] == "function" and names.get(one.name):
             told.append(f"{one.where}: error: {one.name} is labelled here, in a unit of a library that isn't linked: have the unit that defines "
                         f"{one.name} include this line [blade-label]")
     return told
@@ -91,10 +94,24 @@ def near(word: str, names: Sequence[str]) -> str:
     return f": do you mean {found[0]}?" if found else ""
 
 
-def named(module: Module, name: str) -> Set[int]:
-    """The functions of a name. wasm-opt calls the second of two static functions NAME.1."""
-    found = {index for index, told in module.names.items() if name in (told, base(told), re.sub(r"\.\d+$", "", told))}
-    return found | {index for (sort, told), index in module.exports.items() if (sort, told) == (FUNCTION, name)}
+def names_of(module: Module) -> Dict[str, Set[int]]:
+    """The functions by their names. wasm-opt calls the second of two static functions NAME.1."""
+    found: Dict[str, Set[int]] = {}
+    for index, told in module.names.items():
+        for name in (told, base(told), re.sub(r"\.\d+$", "", told)):
+            found.setdefault(name, set()).add(index)
+    for (sort, told), index in module.exports.items():
+        if sort == FUNCTION:
+            found.setdefault(told, set()).add(index)
+    return found
+
+
+def by_name(told: Sequence[Subprogram]) -> Dict[str, List[Subprogram]]:
+    found: Dict[str, List[Subprogram]] = {}
+    for one in told:
+        for name in dict.fromkeys((one.name, one.linkage)):
+            found.setdefault(name, []).append(one)
+    return found
 
 
 class Resolver:
@@ -104,6 +121,7 @@ class Resolver:
         self.module = module
         walk = Walk(module)
         self.told, self.folders = walk.run(), walk.folders
+        self.names, self.known = names_of(module), by_name(self.told)
 
     def place(self, one: Declared) -> str:
         """Where a line stands: its file was named from the folder that its unit was compiled in."""
@@ -115,8 +133,8 @@ class Resolver:
         """The function, and what DWARF says of those of its name."""
         if name.isdigit():
             return int(name), []
-        known = [one for one in self.told if name in (one.name, one.linkage)]
-        found = {one.function for one in known if one.function is not None} | named(self.module, name)
+        known = self.known.get(name, [])
+        found = {one.function for one in known if one.function is not None} | self.names.get(name, set())
         if len(found) > 1:
             # Static ones of several files: that of the file that the line stands in.
             file = "/" + where.rpartition(":")[0]
@@ -191,7 +209,7 @@ class Resolver:
         if not self.has_line(defined, one):
             raise Bad(f"{one.name} is defined in {defined.unit}, which doesn't have this line, so it may be inlined there, where nothing is declared: "
                       "have that unit include it (-include FILE.h does without a change)")
-        calls = copies(self.told, function)
+        calls = copies(known, function)
         if one.kind == "secret-param" and calls:
             raise Bad(f"{one.name} is inlined at {calls[0].path}:{calls[0].line}, and what it is given there isn't declared secret, {KEEP}")
         return one.kind, (function, self.parameter(function, defined, one.which) if one.kind == "secret-param" else int(one.which))
@@ -208,14 +226,19 @@ def of_source(module: Module, answered: Set[Named]) -> Labelled:
     found: List[Tuple[Entry, str]] = []
     errors: List[str] = []
     resolver = Resolver(module) if lines else None
+    seen: Set[Entry] = set()
     for one in lines:
         try:
             entry = resolver.entry(one)
-            if entry not in [other for other, _ in found]:
-                check(module, [other for other, _ in found] + [entry])
+            if entry not in seen:
+                check(module, [entry])
+                seen.add(entry)
                 found.append((entry, resolver.place(one)))
         except Bad as bad:
             errors.append(f"{resolver.place(one)}: error: {bad} [blade-label]")
+        if len(errors) > MOST_ERRORS:
+            break
+    check(module, [entry for entry, _ in found])
     return Labelled(found, errors, [], tuple(one.name for one in lines if KINDS[one.kind].names[0] == "function"))
 
 

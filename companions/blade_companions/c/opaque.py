@@ -179,7 +179,8 @@ class Opaque:
             head[: head.rindex("{")] + "noinline {"
 
     def hide(self, one: Defined) -> None:
-        """Hides what a function does with its parameters, and what it gives back."""
+        """Hides what a function does with its parameters, and what it gives back, and keeps LLVM from copies of it for some arguments."""
+        self.lines[one.start] = self.lines[one.start].replace(" noinline ", " noinline noduplicate ", 1)
         wanted = [label.number for label in self.unit.labels if label.function is one and label.named.kind == "secret-param"]
         body = self.lines[one.start + 1 : one.end]
         body = [hidden_return(line, at) for at, line in enumerate(body)]
