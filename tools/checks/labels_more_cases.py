@@ -89,9 +89,6 @@ MORE = [
          "blade-cc -c a.c && blade-cc -c b.c && wasm-ld -r -o c.o b.o a.o && blade-cc c.o -o out/", export="f"),
     more("plain-archive-member", {"a.c": HEAD + "unsigned h(unsigned k);\nBLADE_SECRET_PARAM(h, k);\nunsigned h(unsigned k) { return k * 7; }\n", "b.c": TABLE + SAME + LOOK},
          f"blade-cc -c a.c && {PLAIN} -c b.c -o b.o && llvm-ar rcsT libb.a b.o && blade-cc a.o -L. -lb --export g --export h --export f {WORDS} -o out/"),
-    more("plain-muldefs", {"a.c": HEAD + LABELLED + SAME, "b.c": TABLE + SAME + LOOK},
-         f"blade-cc -c a.c && {PLAIN} -fvisibility=default -c b.c -o b.o && blade-cc -Wl,--allow-multiple-definition a.o b.o -o out/",
-         right=(*REFUSED, *BUILD)),
     # One function in several units.
     more("header-through-link", {"inc/f.h": "static inline unsigned f(unsigned k) { return k * 5 + 1; }\n",
                                  "a.c": HEAD + "static inline unsigned f(unsigned k);\nBLADE_SECRET_PARAM(f, k);\n#include \"inc/f.h\"\n" + H,
@@ -236,6 +233,64 @@ MORE = [
     more("words-in-file", {"a.c": TABLE + SAME + LOOK, "words": "--label 'secret-param f k'\n-O3\n"}, "blade-cc @words a.c -o out/"),
     more("vault-look-up", {"a.c": "#include \"vault.h\"\n" + TABLE + "unsigned g(unsigned i) { (void)i; return 1; }\n" + HEAD + LABELLED + SAME + LOOK.replace("g(", "h(")},
          "blade-cc --vault a.c -o out/", export="h"),
+    # A third wave.
+    more("cxx-static-g0", {"f.h": "static inline unsigned f(unsigned k) { return k * 5 + 1; }\n",
+                           "a.cc": HEAD + "static inline unsigned f(unsigned k);\nBLADE_SECRET_PARAM(f, k);\n#include \"f.h\"\nextern \"C\" { " + H + "}\n",
+                           "b.cc": TABLE + "#include \"f.h\"\nextern \"C\" " + LOOK}, "blade-cc -c a.cc && blade-cc -g0 -c b.cc && blade-cc a.o b.o -o out/"),
+    more("unique-names-g0", {"f.h": "static inline unsigned f(unsigned k) { return k * 5 + 1; }\n",
+                             "a.c": HEAD + "static inline unsigned f(unsigned k);\nBLADE_SECRET_PARAM(f, k);\n#include \"f.h\"\n" + H,
+                             "b.c": TABLE + "#include \"f.h\"\n" + LOOK}, "blade-cc -c a.c && blade-cc -g0 -funique-internal-linkage-names -c b.c && blade-cc a.o b.o -o out/"),
+    more("header-not-included", {"a.c": HEAD + "unsigned h(unsigned k);\nBLADE_SECRET_PARAM(h, k);\nunsigned h(unsigned k) { return k * 3; }\n",
+                                 "b.c": "BLADE_SECRET_MEMORY;\n" + TABLE + "unsigned g(unsigned *p) { return table[p[0] & 255]; }\n"},
+         "blade-cc a.c b.c -o out/", starts=IN_MEMORY, right=(*REFUSED, *BUILD)),
+    more("marked-lto", {"a.c": HEAD + TABLE + "unsigned g(unsigned x) { return table[BLADE_SECRET(x) & 255]; }\n"}, "blade-cc -flto --export g a.c -o out/", right=(*REFUSED, *BUILD)),
+    more("marked-divisor", {"a.c": HEAD + "unsigned g(unsigned x) { unsigned short y = x; return 70000 / (BLADE_SECRET(y) | 1); }\n"}, "blade-cc -O3 a.c -o out/", right=NO),
+    more("marked-reference", {"a.cc": HEAD + TABLE + "static unsigned look(const unsigned &x) { auto y = BLADE_SECRET(x); return table[y & 255]; }\n"
+                              "extern \"C\" unsigned g(unsigned x) { return look(x); }\n"}, "blade-cc a.cc -o out/", right=NO),
+    more("relocatable-two-statics", {"a.c": HEAD + TABLE + "static " + LABELLED + "static unsigned f(unsigned k) { return k * 5 + 1; }\nunsigned h(unsigned k);\n"
+                                     "unsigned g(unsigned key, unsigned i);\nBLADE_SECRET_PARAM(g, key);\nunsigned g(unsigned key, unsigned i) { return h(key) ^ table[f(i) & 255]; }\n",
+                                     "b.c": "__attribute__((noinline)) static unsigned f(unsigned k) { return k * 3; }\nunsigned h(unsigned i) { return f(i); }\n"},
+         "blade-cc -c a.c && blade-cc -c b.c && wasm-ld -r -o c.o b.o a.o && blade-cc c.o -o out/", starts=TWO_WORDS),
+    more("thin-lto-two-statics", {"a.c": HEAD + TABLE + "static " + LABELLED + "static unsigned f(unsigned k) { return k * 5 + 1; }\nunsigned h(unsigned k);\n"
+                                  "unsigned g(unsigned key, unsigned i);\nBLADE_SECRET_PARAM(g, key);\nunsigned g(unsigned key, unsigned i) { return h(key) ^ table[f(i) & 255]; }\n",
+                                  "b.c": "__attribute__((noinline)) static unsigned f(unsigned k) { return k * 3; }\nunsigned h(unsigned i) { return f(i); }\n"},
+         "blade-cc -flto=thin --export g b.c a.c -o out/", starts=TWO_WORDS, right=(*REFUSED, *BUILD)),
+    more("assembler-of-own", {"a.c": HEAD + TABLE + LABELLED + SAME + LOOK}, "blade-cc -S a.c -o a.s && blade-cc a.s -o out/", right=(*REFUSED, *BUILD)),
+    more("gnu-inline", {"f.h": HEAD + LABELLED + "extern inline __attribute__((gnu_inline)) " + SAME, "a.c": "#include \"f.h\"\n" + TABLE + LOOK, "b.c": SAME}, "blade-cc a.c b.c -o out/"),
+    more("bitcode-cxx", {"f.h": HEAD + LABELLED, "a.cc": "#include \"f.h\"\n" + SAME, "b.cc": "#include \"f.h\"\n" + TABLE + "extern \"C\" " + LOOK},
+         "blade-cc -emit-llvm -c a.cc -o a.bc && blade-cc -emit-llvm -c b.cc -o b.bc && blade-cc a.bc b.bc --export _Z1fj --export g -o out/"),
+    more("lto-unnamed-namespaces", {"a.cc": HEAD + TABLE + "namespace { unsigned f(unsigned k);\nBLADE_SECRET_PARAM(f, k);\nunsigned f(unsigned k) { return k * 5 + 1; } }\n"
+                                    "extern \"C\" { unsigned h(unsigned k);\nunsigned g(unsigned key, unsigned i);\nBLADE_SECRET_PARAM(g, key);\n"
+                                    "unsigned g(unsigned key, unsigned i) { return h(key) ^ table[f(i) & 255]; } }\n",
+                                    "b.cc": "namespace { __attribute__((noinline)) unsigned f(unsigned k) { return k * 3; } }\nextern \"C\" unsigned h(unsigned i) { return f(i); }\n"},
+         "blade-cc -flto --export g b.cc a.cc -o out/", starts=TWO_WORDS),
+    more("union-parts", {"a.c": HEAD + TABLE + "union u { unsigned w; unsigned char b[4]; };\nstatic inline " + LABELLED +
+                         "static inline unsigned f(unsigned k) { union u x; x.w = k; return x.b[0]; }\nunsigned g(unsigned i) { return table[f(i)]; }\n"}, "blade-cc -O1 a.c -o out/"),
+    more("words-method-one-unit", {"f.h": "struct s { unsigned p; unsigned f(unsigned k) const { return k * 5 + 1; } };\n",
+                                   "a.cc": "#include \"f.h\"\nextern \"C\" unsigned h(unsigned k) { s x = {1}; return x.f(k); }\n",
+                                   "b.cc": TABLE + "#include \"f.h\"\nextern \"C\" unsigned g(unsigned i) { s x = {2}; return table[x.f(i) & 255]; }\n"},
+         "blade-cc --label 'secret-param f k secret-param h k' -c a.cc && blade-cc -c b.cc && blade-cc a.o b.o -o out/"),
+    # A fourth wave.
+    more("pack-by-number", {"a.cc": TABLE + "template <class... T> __attribute__((noinline)) unsigned f(T... k) { unsigned a[] = {k...}; return table[a[1] & 255] ^ a[0]; }\n"
+                            "template unsigned f(unsigned, unsigned);\n"}, "blade-cc -O3 --label 'secret-param _Z1fIJjjEEjDpT_ 1' a.cc -o out/", export="_Z1fIJjjEEjDpT_", starts=TWO_WORDS),
+    more("template-other-order", {"a.cc": TABLE + "template <class T> unsigned f(T key, T other);\ntemplate <class T> unsigned f(T other, T key) { return table[other & 255] ^ key; }\n"
+                                  "template unsigned f(unsigned, unsigned);\n"}, "blade-cc --label 'secret-param _Z1fIjEjT_S0_ key' a.cc -o out/", export="_Z1fIjEjT_S0_",
+         starts=("arg 3\narg 1\n", "arg 9\narg 1\n")),
+    more("other-order-in-colour", {"a.c": HEAD + TABLE + "unsigned f(unsigned key, unsigned other);\nBLADE_SECRET_PARAM(f, key);\n"
+                                   "unsigned f(unsigned other, unsigned key) { return table[other & 255] ^ key; }\n"}, "blade-cc -fcolor-diagnostics a.c -o out/", export="f",
+         starts=("arg 3\narg 1\n", "arg 9\narg 1\n")),
+    more("cxx-static-nodebug", {"f.h": "__attribute__((nodebug)) static inline unsigned f(unsigned k) { return k * 5 + 1; }\n",
+                                "a.cc": HEAD + "static inline unsigned f(unsigned k);\nBLADE_SECRET_PARAM(f, k);\n#include \"f.h\"\nextern \"C\" { " + H + "}\n",
+                                "b.cc": TABLE + "#include \"f.h\"\nextern \"C\" " + LOOK}, "blade-cc a.cc b.cc -o out/"),
+    more("other-order-folder-with-blank", {"my inc/f.h": "unsigned f(unsigned key, unsigned other);\n", "a.c": "#include \"my inc/f.h\"\n" + HEAD + TABLE +
+                                           "BLADE_SECRET_PARAM(f, key);\nunsigned f(unsigned other, unsigned key) { return table[other & 255] ^ key; }\n"}, export="f",
+         starts=("arg 3\narg 1\n", "arg 9\narg 1\n")),
+    more("other-order-by-macro", {"d.h": "#define DECLARE(name) unsigned name(unsigned key, unsigned other);\n", "a.c": "#include \"d.h\"\n" + HEAD + TABLE +
+                                  "DECLARE(f)\nBLADE_SECRET_PARAM(f, key);\nunsigned f(unsigned other, unsigned key) { return table[other & 255] ^ key; }\n"}, export="f",
+         starts=("arg 3\narg 1\n", "arg 9\narg 1\n")),
+    more("marked-allow-undefined", {"a.c": HEAD + TABLE + "unsigned g(unsigned x) { return table[BLADE_SECRET(x) & 255]; }\n",
+                                    "b.c": HEAD + "unsigned h(unsigned k);\nBLADE_SECRET_PARAM(h, k);\nunsigned h(unsigned k) { return k * 3; }\n"},
+         "blade-cc -Wl,--allow-undefined a.c b.c -o out/", right=(*REFUSED, *BUILD, Answer(6, "error: "))),
 ]
 WORK = "unsigned f(unsigned k) { return (k << 3 | k >> 29) * 5 + 1; }\n"
 ENTRY = "unsigned g(unsigned k);\nBLADE_SECRET_PARAM(g, k);\nunsigned g(unsigned k) { return f(k ^ 7); }\n"
