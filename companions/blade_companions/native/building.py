@@ -1,6 +1,7 @@
 """How the C of an image is compiled. Licence: public domain (CC0)."""
 from __future__ import annotations
 
+import os
 import shutil
 import subprocess
 from typing import List, Sequence
@@ -9,13 +10,12 @@ from ..formats.reading import Bad
 
 # No tables: a jump through one is a guess of its own, and a value from one may be read past its end under a
 # wrong guess.
-# No builtins: a loop stays a loop, and isn't turned into a call of memcpy. No vectors: their constants come
-# from tables.
+# No builtins: a loop stays a loop, and isn't turned into a call of memcpy.
+# No vectors: their constants come from tables.
 # No branches that the image doesn't have: no unrolled loops with a rest, no choices that become branches.
-# Joining the ends of
-# blocks is left out so that each branch keeps the line of its Test, by which an object is checked. A frame is
-# touched page by
-# page, so that a stack that is too small faults and isn't overrun.
+# Ends of blocks
+# aren't joined, so that each branch keeps the line of its Test, by which an object is checked.
+# A frame is touched page by page, so that a stack that is too small faults and isn't overrun.
 FLAGS = [
     "-std=c11",
     "-w",
@@ -73,3 +73,15 @@ def build(compiler: str, source: str, output: str, level: str = "-O2", more: Seq
     )
     if done.returncode:
         raise Bad(f"{compiler} doesn't compile {source}: {done.stderr.strip()[:600]}")
+
+
+def library(compiler: str, path: str) -> None:
+    """Makes libNAME.a and libNAME.so of an object NAME.o."""
+    folder, name = os.path.split(path)
+    stem = os.path.join(folder, f"lib{name[:-2]}")
+    for words in (["ar", "rcsD", f"{stem}.a", path], [compiler, "-shared", "-o", f"{stem}.so", path]):
+        if not shutil.which(words[0]):
+            raise Bad(f"there is no {words[0]} here")
+        done = subprocess.run(words, capture_output=True, text=True, check=False)
+        if done.returncode:
+            raise Bad(f"{words[0]} doesn't make {stem}: {done.stderr.strip()[:600]}")

@@ -219,7 +219,8 @@ class Check:
             yield f"{code.name}+{address:#x}: no barrier stands where protect {position} has one"
             return
         for one in self.early_readers(code, leaders, at, position, register):
-            yield f"{code.name}+{one.address:#x}: {one.text}: reads the value of protect {position} in front of its barrier"
+            place = f"{code.name}+{one.address:#x}: {one.text}"
+            yield f"{place}: reads the value of protect {position} in front of its barrier"
 
     # ---- the whole
 

@@ -34,10 +34,11 @@ def secret_words(emission: Emission, export: Export) -> str:
     return f"; secret: {', '.join(secret)}" if secret else ""
 
 
-def header(emission: Emission, exports: List[Export]) -> str:
+def header(emission: Emission, exports: List[Export], verdict: str = "not verified") -> str:
     """The text of NAME.h."""
     name, upper = emission.name, emission.name.upper()
     ends = ", ".join(f"{upper}_{kind.upper()}" for kind in ("ok", *KINDS))
+    globals_ = len(emission.program.globals)
     functions = "\n".join(
         f"/* {one.origin}{secret_words(emission, one)} */\n{heading(emission, one)};" for one in exports
     )
@@ -48,7 +49,7 @@ def header(emission: Emission, exports: List[Export]) -> str:
         )
         or "   no memory"
     )
-    return f"""/* Made by blade-native from {name}.image. */
+    return f"""/* Made by blade-native: {verdict}. */
 #ifndef {upper}_H
 #define {upper}_H
 #include <stdint.h>
@@ -62,19 +63,19 @@ typedef struct {name} {name};
 void {name}_reset({name} *m); /* wipes it, and gives it its first contents again */
 void {name}_free({name} *m); /* wipes it, and gives its room back; NULL is allowed */
 
-/* How a call ends. After a trap the memories and globals keep what was written until then, and no result is. */
+/* How a call ends. After a trap, memories and globals keep what was written before, and there is no result. */
 typedef enum {{ {ends} }} {name}_end;
 const char *{name}_end_text({name}_end end);
 
 {functions}
 
-/* Memories are read and written by offsets; 0 is answered, and nothing done, if not all bytes lie in the memory.
+/* Memories are read and written by offsets. If not all bytes lie in the memory, the answer is 0, and nothing is done.
 {memories} */
 uint32_t {name}_pages(const {name} *m, uint32_t memory);
 int {name}_read(const {name} *m, uint32_t memory, uint32_t offset, void *to, uint32_t size);
 int {name}_write({name} *m, uint32_t memory, uint32_t offset, const void *from, uint32_t size);
 
-/* Globals are numbered as in the image, which has {len(emission.program.globals)}; 0 is answered if there is no such global. */
+/* Globals are numbered as in the image, which has {globals_}. The answer is 0 if there is no such one. */
 int {name}_global(const {name} *m, uint32_t global, uint64_t *value);
 int {name}_set_global({name} *m, uint32_t global, uint64_t value);
 

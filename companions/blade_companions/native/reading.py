@@ -62,7 +62,8 @@ def read_types(data: bytes) -> Tuple[List[int], List[List[int]]]:
     reader = Reader(data, len("BLIM") + 1)
 
     def global_type() -> int:
-        kind, _label, _value = reader.byte(), reader.byte(), reader.number()
+        kind = reader.byte()
+        reader.byte(), reader.number()
         return kind
 
     def results() -> List[int]:

@@ -2,6 +2,7 @@
 from __future__ import annotations
 
 import os
+import re
 from typing import Iterator, List, NamedTuple, Tuple
 
 from .emission import Emission, FunctionEmission
@@ -89,7 +90,8 @@ def life(emission: Emission) -> List[str]:
     name, memories = emission.name, emission.program.memories
     numbers = range(len(memories))
     make = "\n".join(
-        f"    m->memory[{at}] = new_memory({one.reserve});\n    if (!m->memory[{at}]) {{ {name}_free(m); return NULL; }}"
+        f"    m->memory[{at}] = new_memory({one.reserve});\n"
+        f"    if (!m->memory[{at}]) {{ {name}_free(m); return NULL; }}"
         for at, one in enumerate(memories)
     )
     wipe = "\n".join(f"    wipe(m->memory[{at}], m->pages[{at}] * PAGE);" for at in numbers)
@@ -161,8 +163,12 @@ def copies(emission: Emission, word: str, kind: str, bytes_: str, line: str) -> 
     if (size) {line}
     return (int)is_inside;"""
     else:
-        body = f"    (void)m; (void)memory; (void)offset; (void){bytes_.rpartition('*')[2]}; (void)size;\n    return 0;"
-    return f"int {name}_{word}({kind} *m, uint32_t memory, uint32_t offset, {bytes_}, uint32_t size)\n{{\n{body}\n}}\n"
+        unused = " ".join(
+            f"(void){it};" for it in ("m", "memory", "offset", bytes_.rpartition("*")[2], "size")
+        )
+        body = f"    {unused}\n    return 0;"
+    head = f"int {name}_{word}({kind} *m, uint32_t memory, uint32_t offset, {bytes_}, uint32_t size)"
+    return f"{head}\n{{\n{body}\n}}\n"
 
 
 def accessors(emission: Emission) -> List[str]:
@@ -214,13 +220,14 @@ const char *{name}_end_text({name}_end end)
     )
 
 
-def translate(module: Module, name: str) -> Translation:
+def translate(module: Module, name: str, verdict: str = "not verified") -> Translation:
     """The C of an image; one that C's variables can't stand for is refused."""
     check_exactness(module)
+    verdict = re.sub(r"[^a-z0-9 :,.-]", "?", verdict)  # it goes into a comment of C
     emission = Emission(module, widths_of(module), name)
     exports = [Export(*one) for one in export_names(module.program.exports)]
     includes = "".join(f"#include <{one}>\n" for one in INCLUDES)
-    head = f"""/* Made by blade-native from {name}.image: compile it with `blade-native --object`. */
+    head = f"""/* Made by blade-native ({verdict}): compile it with `blade-native --object`. */
 #define _DEFAULT_SOURCE
 #include "{name}.h"
 {includes}
@@ -233,4 +240,4 @@ def translate(module: Module, name: str) -> Translation:
     for export in exports:
         lines += entry(emission, export)
     lines += life(emission) + accessors(emission)
-    return Translation("\n".join(lines), header(emission, exports))
+    return Translation("\n".join(lines), header(emission, exports, verdict))
