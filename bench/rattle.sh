@@ -28,11 +28,11 @@ copy_parts() {
     : > "$measure/specs/Lib.antt"
 }
 
-# Builds programs/NAME.rt as out/measure of the folder that is the current one then: build NAME CRATE.., the crates that it names.
+# Builds programs/NAME.rt.txt as out/measure of the folder that is the current one then: build NAME CRATE.., the crates that it names.
 build() {
     local name=$1
     shift
-    cp "$top/bench/programs/$name.rt" "$measure/src/main.rt"
+    cp "$top/bench/programs/$name.rt.txt" "$measure/src/main.rt"
     echo "measure: $*" >> "$work/crates.txt"
     cd "$measure" || exit
     rt run > "$work/log" 2>&1 || { grep -E 'error|no proof' "$work/log"; exit 1; }

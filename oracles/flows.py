@@ -58,6 +58,47 @@ def ladder(rungs):
     return n
 
 
+def bundle(places, rounds):
+    """Rails to and from rounds, and places of weight 1 between two hubs. Each round's paths are longer, and take back what the paths of
+    the round before put on the places."""
+    n = Network([1_000_000, 1_000_000, None, None, None, None], [(0, 2), (3, 1)], [0], [1])
+
+    def through(start, weight, end):
+        between = n.node(weight)
+        n.arc(start, between)
+        n.arc(between, end)
+
+    there, back = 2, 3
+    for number in range(rounds):
+        first, second = (4, 5) if number % 2 == 0 else (5, 4)
+        last = there, back
+        there, back = n.node(None), n.node(None)
+        through(last[0], 1000, there)
+        through(back, 1000, last[1])
+        through(there, places, first)
+        through(second, places, back)
+    for _ in range(places):
+        through(4, 1, 5)
+    return n
+
+
+def circled():
+    """The same beside a circle: of 1000 that can leave its start 4 come to the end, and the way out of the circle that is shorter takes 3."""
+    n = bundle(12, 12)
+    start = n.node(1000)
+    circle = [n.node(None) for _ in range(4)]
+    for place in range(4):
+        n.arc(circle[place], circle[(place + 1) % 4])
+    n.arc(start, circle[0])
+    near, far = n.node(3), n.node(1)
+    n.arc(circle[2], near)
+    n.arc(near, 1)
+    n.way(circle[3], 20, far)
+    n.arc(far, 1)
+    n.starts = [start, 0]
+    return n
+
+
 def two_thousand():
     n, state = Network(), 1
     for v in range(2000):
@@ -99,4 +140,6 @@ def judge(n):
 if __name__ == '__main__':
     print('crossing', judge(crossing()))
     print('ladder of 12 rungs', judge(ladder(12)))
+    print('bundle of 12 places and 12 rounds', judge(bundle(12, 12)))
+    print('the same beside a circle', judge(circled()))
     print('two thousand nodes at random', judge(two_thousand()))

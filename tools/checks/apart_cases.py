@@ -53,6 +53,9 @@ WITNESSES: List[Case] = [
          {"lib": f'(module {F_STUB} (func (export "extra") (result i32) i32.const 5))'}, "returned i32 5",
          ["the stub exports lib/extra, which neither the interface nor the library has: who calls it runs the stub's body",
           "CLIENT/client.wasm: imports function lib/extra, which isn't in the interface: the stub's body runs"]),
+    Case("an export of the stub that the interface doesn't have", "function - s lib/f\n", {"lib": ELEVEN}, {"client": HAND_ON.replace('(export "again" (func $f))', "")},
+         [Call("lib/z", [], "start: export")], {"lib": f'(module {F_STUB} (func (export "z") (result i32) i32.const 5))'}, "returned i32 5",
+         ["the stub exports lib/z, which neither the interface nor the library has: who calls it runs the stub's body"]),
 ]
 
 TABLES = """(module

@@ -88,6 +88,7 @@ class Check:
         text = str(more).strip()
         if len(text) > LONG:
             text = f"{text[: LONG // 2]} .. {text[-LONG // 2 :]}"
+        text = "".join(letter if letter.isprintable() or letter == "\n" else repr(letter)[1:-1] for letter in text)
         if not holds or self.prints_right:
             print(f"right  {name}" if holds else f"WRONG  {name}{': ' * bool(text)}{text}", flush=True)
 

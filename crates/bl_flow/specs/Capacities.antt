@@ -1,5 +1,5 @@
 -- What links can take, as it is kept.
-use Rattle.std.specs.Prelude.{◌≡◌, ℕ, ◌+◌, ◌-◌, ◌^◌, ◌≤◌, List, length, map, slice_index, if◌then◌else◌, nat_lt}
+use Rattle.std.specs.Prelude.{◌≡◌, ℕ, ◌+◌, ◌-◌, ◌^◌, ◌<◌, ◌≤◌, List, length, map, slice_index, if◌then◌else◌, nat_lt}
 use Rattle.std.specs.List.{range_with_len}
 use Rattle.bl_flow.specs.Flows.{AreReverse}
 
@@ -29,3 +29,17 @@ pub record Moved (now after : List ℕ) (j t d : ℕ) : Type 0 where
 pub record IsMoved (now after : List ℕ) (link amount : ℕ) : Type 0 where
   pub places : length after ≡ length now
   pub moved : (half t : ℕ) → half + half ≡ length now → AreReverse half link t → Moved now after link t amount
+
+-- what links can take that carry these amounts, none above the most, where what each can take both ways together is as it was
+pub record AreCarrying (old after carried : List ℕ) (most : ℕ) : Type 0 where
+  pub places : length after ≡ length old
+  pub halves : length carried + length carried ≡ length old
+  pub sums : (k : ℕ) → k < length carried →
+      slice_index after k + slice_index after (k + length carried) ≡ slice_index old k + slice_index old (k + length carried)
+  pub carries : (k : ℕ) → k < length carried → slice_index after (k + length carried) ≡ slice_index carried k
+  pub limit : (k : ℕ) → k < length carried → slice_index carried k ≤ most
+
+-- what the first links can still take, with what they carry now, is what they could take with what they carried before
+pub record AreLeft (through before now left : List ℕ) : Type 0 where
+  pub places : length left ≡ length through
+  pub each : (v : ℕ) → v < length through → slice_index left v + slice_index now v ≡ slice_index through v + slice_index before v

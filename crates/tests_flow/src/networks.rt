@@ -168,3 +168,73 @@ pub fn ladder(alloc: Global, rungs: u32) -> Result<Network, NoMemory> {
     }
     Ok(n)
 }
+
+/// Arcs from one node to another by a new node of this weight.
+fn add_site(n: &mut Network, from: u32, weight: u64, to: u32) -> Result<(), NoMemory> {
+    let between = add_node(n, Some(weight))?;
+    n.arcs.push(Arc { from, to: between })?;
+    n.arcs.push(Arc { from: between, to })
+}
+
+/// A round more, behind the last nodes of the rails there and back, from the one hub to the other; gives the rails' last
+/// nodes.
+fn add_round(
+    n: &mut Network,
+    rails: (u32, u32),
+    hubs: (u32, u32),
+    places: u64,
+) -> Result<(u32, u32), NoMemory> {
+    let there = add_node(n, None)?;
+    let back = add_node(n, None)?;
+    add_site(n, rails.0, 1000, there)?;
+    add_site(n, back, 1000, rails.1)?;
+    add_site(n, there, places, hubs.0)?;
+    add_site(n, hubs.1, places, back)?;
+    Ok((there, back))
+}
+
+/// Rails to and from rounds, and places of weight 1 between two hubs. Each round's paths are longer, and take back what the
+/// paths of the round before put on the places.
+pub fn bundle(alloc: Global, places: u32, rounds: u32) -> Result<Network, NoMemory> {
+    let ends = Some(1_000_000);
+    let weights = [ends, ends, None, None, None, None];
+    let mut n = network(alloc, &weights, &[(0, 2), (3, 1)], &[0], &[1])?;
+    let mut rails = (2, 3);
+    for round in 0..rounds {
+        let hubs = if round % 2 == 0 { (4, 5) } else { (5, 4) };
+        rails = add_round(&mut n, rails, hubs, u64::from(places))?;
+    }
+    for _ in 0..places {
+        add_site(&mut n, 4, 1, 5)?;
+    }
+    Ok(n)
+}
+
+/// Four nodes in a circle, which a start of weight 1000 leads into; gives the start. What leaves it comes to node 1, 3 by a
+/// short way and 1 by a long one.
+fn add_circle(n: &mut Network) -> Result<u32, NoMemory> {
+    let start = add_node(n, Some(1000))?;
+    let first = add_node(n, None)?;
+    let second = add_node(n, None)?;
+    let third = add_node(n, None)?;
+    let fourth = add_node(n, None)?;
+    add_way(n, start, 0, first)?;
+    add_way(n, first, 0, second)?;
+    add_way(n, second, 0, third)?;
+    add_way(n, third, 0, fourth)?;
+    add_way(n, fourth, 0, first)?;
+    add_site(n, third, 3, 1)?;
+    let far = add_node(n, Some(1))?;
+    add_way(n, fourth, 20, far)?;
+    add_way(n, far, 0, 1)?;
+    Ok(start)
+}
+
+/// The same beside a circle, round which a preflow sends more than comes to the end.
+pub fn circled(alloc: Global, places: u32, rounds: u32) -> Result<Network, NoMemory> {
+    let mut n = bundle(alloc, places, rounds)?;
+    let start = add_circle(&mut n)?;
+    let starts = [start, 0];
+    n.starts = List::of(starts.to_vec(alloc)?);
+    Ok(n)
+}
