@@ -4,17 +4,17 @@ from __future__ import annotations
 import os
 import shutil
 import subprocess
-from typing import List, Sequence
+from typing import Sequence
 
 from ..formats.reading import Bad
 
-# No tables: a jump through one is a guess of its own, and a value from one may be read past its end under a
-# wrong guess.
+# No tables: a jump through a table is a guess of its own, and under a wrong guess a table may be read past
+# its end.
 # No builtins: a loop stays a loop, and isn't turned into a call of memcpy.
 # No vectors: their constants come from tables.
 # No branches that the image doesn't have: no unrolled loops with a rest, no choices that become branches.
-# Ends of blocks
-# aren't joined, so that each branch keeps the line of its Test, by which an object is checked.
+# The ends of blocks aren't joined, so that each branch keeps the line of its Test, which the check needs.
+# One section, so that an address belongs to one function.
 # A frame is touched page by page, so that a stack that is too small faults and isn't overrun.
 FLAGS = [
     "-std=c11",
@@ -33,6 +33,7 @@ BY_FAMILY = {
         "-fno-tree-loop-distribute-patterns",
         "-fno-tree-vectorize",
         "-fno-reorder-blocks-and-partition",
+        "-fno-reorder-functions",
     ],
     "clang": [
         "-fno-vectorize",
@@ -58,30 +59,25 @@ def family(compiler: str) -> str:
     return "clang" if "clang" in told else "gcc"
 
 
-def compile_words(
-    compiler: str, source: str, output: str, level: str = "-O2", more: Sequence[str] = ("-c",)
-) -> List[str]:
-    """The command that compiles a translated image."""
-    kind = family(compiler)
-    return [compiler, level, *FLAGS, *BY_FAMILY[kind], *more, source, "-o", output]
+def ran(words: Sequence[str], what: str) -> None:
+    """Runs a tool that has to succeed."""
+    if not shutil.which(words[0]):
+        raise Bad(f"there is no {words[0]} here")
+    done = subprocess.run(words, capture_output=True, text=True, errors="replace", check=False)
+    if done.returncode:
+        raise Bad(f"{words[0]} doesn't {what}: {done.stderr.strip()[:600]}")
 
 
 def build(compiler: str, source: str, output: str, level: str = "-O2", more: Sequence[str] = ("-c",)) -> None:
-    """Compiles it. Warnings are off: they ask what an author meant, and a program wrote this."""
-    done = subprocess.run(
-        compile_words(compiler, source, output, level, more), capture_output=True, text=True, check=False
-    )
-    if done.returncode:
-        raise Bad(f"{compiler} doesn't compile {source}: {done.stderr.strip()[:600]}")
+    """Compiles a translated image. Warnings are off: they ask what an author meant, and a program wrote
+    this."""
+    words = [compiler, level, *FLAGS, *BY_FAMILY[family(compiler)], *more, source, "-o", output]
+    ran(words, f"compile {source}")
 
 
-def library(compiler: str, path: str) -> None:
-    """Makes libNAME.a and libNAME.so of an object NAME.o."""
-    folder, name = os.path.split(path)
-    stem = os.path.join(folder, f"lib{name[:-2]}")
-    for words in (["ar", "rcsD", f"{stem}.a", path], [compiler, "-shared", "-o", f"{stem}.so", path]):
-        if not shutil.which(words[0]):
-            raise Bad(f"there is no {words[0]} here")
-        done = subprocess.run(words, capture_output=True, text=True, check=False)
-        if done.returncode:
-            raise Bad(f"{words[0]} doesn't make {stem}: {done.stderr.strip()[:600]}")
+def libraries(compiler: str, path: str, stem: str) -> None:
+    """Makes STEM.a and STEM.so from an object."""
+    if os.path.exists(f"{stem}.a"):
+        os.unlink(f"{stem}.a")
+    ran(["ar", "rcsD", f"{stem}.a", path], f"make {stem}.a")
+    ran([compiler, "-shared", "-Wl,-z,text", "-pthread", "-o", f"{stem}.so", path], f"make {stem}.so")

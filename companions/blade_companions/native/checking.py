@@ -1,12 +1,12 @@
-"""What an object may have that was compiled of a translated image. Licence: public domain (CC0).
+"""What the machine code of a translated image may contain. Licence: public domain (CC0).
 
-The check looks at machine code, not at the C: a compiler may have added what the image doesn't say, or left
-out what it does. Lines of debugging say which command an instruction comes of; a symbol stands at each
-barrier, and says which protect it is and which register the value is in."""
+The check looks at machine code, not at the C: a compiler may add what the image doesn't say, or leave out
+what it does. Debugging lines say which command an instruction belongs to. Each barrier has a symbol, which
+names the protect and the register of the value. The check takes objects and linked files."""
 from __future__ import annotations
 
 import re
-from typing import Dict, Iterator, List, NamedTuple, Optional, Set
+from typing import Callable, Dict, Iterator, List, NamedTuple, Optional, Set
 
 from formats.read import ARG, CALL, LOAD, MOVE, OUT, QUOTIENTS, SET, TEST, TRAPS, VARIABLE
 
@@ -16,6 +16,8 @@ from .flow import reachable
 from .reading import Module, secret_variables, transient_variables
 
 FUNCTION = re.compile(r"^f(\d+)(?:\.[a-z0-9.]+)?$")
+TRAP = re.compile(r"^trap(?:\.[a-z0-9.]+)?$")  # the only function of the runtime that a function of the image calls
+NOTHING = "no function of the image is in the file, or its symbols or its lines are gone"
 
 
 class Checked(NamedTuple):
@@ -78,14 +80,19 @@ def is_spill(one: Instruction, register: str) -> bool:
 
 
 class Check:
-    """The check of one object."""
+    """The check of one object or linked file."""
 
-    def __init__(self, module: Module, path: str, name: str) -> None:
-        self.module, self.program = module, module.program
+    def __init__(self, module: Module, path: str, name: str, line_of: Callable[[int], str]) -> None:
+        self.module, self.program, self.line_of = module, module.program, line_of
         self.deciding = deciding_variables(module)
         self.counts_depth = counts_depth(module.calls())
-        self.codes = disassemble(path, name, lambda symbol: FUNCTION.match(symbol) is not None)
-        self.branches = self.joined = 0
+        found = disassemble(path, name, lambda symbol: bool(TRAP.match(symbol) or FUNCTION.match(symbol)))
+        self.codes = [code for code in found if FUNCTION.match(code.name)]
+        self.addresses = {one.address for code in self.codes for one in code.instructions}
+        self.addresses |= {code.instructions[0].address for code in found if code.instructions}
+        self.symbols = {code.name for code in found} | {".text"}
+        self.branches = self.joined = self.barriers = 0
+        self.met: Set[int] = set()  # the protects that have a barrier
         self.readers_of: Dict[int, List[int]] = {}
         for position, command in enumerate(self.program.commands, TRAPS):
             for spelling, number in command.operands:
@@ -95,33 +102,27 @@ class Check:
     # ---- branches, calls, tables
 
     def may_branch(self, position: Optional[int]) -> bool:
-        """Whether the command may have a branch: a Test, what a Test's condition is made of, a division,
-        whose operands an observer learns of anyway, or a Call that tests the depth."""
+        """Whether the command may have a branch: a Test, what the condition of a Test is made of, a division,
+        whose operands an observer learns anyway, or a Call that tests the depth."""
         command = self.program.at(position) if position is not None else None
         if command is None:
             return False
-        return (
-            command.code == TEST
-            or command.code in (SET, LOAD)
-            and command.variable in self.deciding
-            or command.code == SET
-            and command.operator in QUOTIENTS
-            or command.code == CALL
-            and self.counts_depth
-        )
+        is_division = command.code == SET and command.operator in QUOTIENTS
+        decides = command.code in (SET, LOAD) and command.variable in self.deciding
+        return command.code == TEST or decides or is_division or command.code == CALL and self.counts_depth
 
-    def is_known(self, symbol: str) -> bool:
-        return symbol in self.codes or symbol in ("trap", ".text")
+    def leaves(self, one: Instruction) -> bool:
+        """Whether an instruction names a place outside of the image's functions: by a relocation, or as the
+        target of a jump or a call."""
+        if one.relocation:
+            return one.relocation not in self.symbols
+        return one.target is not None and one.target not in self.addresses
 
     def tests_depth(self, former: Optional[Instruction]) -> bool:
         """Whether an instruction compares with the most open calls: a compiler may test that before it comes
         to a Call."""
-        return (
-            self.counts_depth
-            and former is not None
-            and former.mnemonic == "cmp"
-            and former.operands[0] == f"${MOST_CALLS:#x}"
-        )
+        compares = self.counts_depth and former is not None and former.mnemonic == "cmp"
+        return compares and former.operands[0] == f"${MOST_CALLS:#x}"
 
     def instruction(self, one: Instruction, former: Optional[Instruction]) -> Iterator[str]:
         """What is wrong with an instruction by itself; the former one is known."""
@@ -132,11 +133,10 @@ class Check:
                 yield "a branch that no Test of the image has"
         if one.is_indirect:
             yield "an indirect jump or call"
-        if one.relocation and not self.is_known(one.relocation):
-            yield f"a call or a table that the image doesn't have: {one.relocation}"
-        if any("(%rip)" in operand for operand in one.operands) and not one.mnemonic.startswith(
-            ("call", "jmp")
-        ):
+        if self.leaves(one):
+            yield f"a call or a table that the image doesn't have: {one.relocation or one.operands[-1]}"
+        is_direct = one.mnemonic.startswith(("call", "jmp"))
+        if not is_direct and any("(%rip)" in operand for operand in one.operands):
             yield "a table in memory"
 
     # ---- barriers
@@ -224,33 +224,48 @@ class Check:
 
     # ---- the whole
 
+    def code(self, code: Code) -> Iterator[str]:
+        """What is wrong with a function of the file."""
+        for one, former in zip(code.instructions, [None, *code.instructions]):
+            for what in self.instruction(one, former):
+                yield f"{code.name}+{one.address:#x}: {one.text}: {what} ({self.placed(one)})"
+        leaders = self.leaders(code)
+        for address, position, register in code.barriers:
+            self.met.add(position)
+            self.barriers += 1
+            yield from self.barrier(code, leaders, address, position, register)
+
+    def placed(self, one: Instruction) -> str:
+        """The place of an instruction, with the line of the source where that is known."""
+        line = self.line_of(one.position) if one.position is not None else ""
+        return f"{one.place}, {line}" if line else one.place
+
+    def protects(self, expected: Set[int]) -> Iterator[str]:
+        """What is wrong with the barriers as a whole."""
+        for position in sorted(expected - self.met):
+            line = self.line_of(position)
+            yield f"protect {position} has no barrier{f' ({line})' if line else ''}"
+        for position in sorted(self.met - expected):
+            if not self.is_protected(position):
+                yield f"a barrier stands at {position}, which isn't protected"
+
+    def is_protected(self, position: int) -> bool:
+        is_there = TRAPS <= position < TRAPS + len(self.program.commands)
+        return is_there and self.program.at(position).is_protected()
+
     def run(self) -> Checked:
-        findings: List[str] = []
-        met: Set[int] = set()
-        barriers = 0
-        for code in self.codes.values():
-            for one, former in zip(code.instructions, [None, *code.instructions]):
-                findings += [
-                    f"{code.name}+{one.address:#x}: {one.text}: {what} ({one.place})"
-                    for what in self.instruction(one, former)
-                ]
-            leaders = self.leaders(code)
-            for address, position, register in code.barriers:
-                met.add(position)
-                barriers += 1
-                findings += self.barrier(code, leaders, address, position, register)
+        findings = [one for code in self.codes for one in self.code(code)]
         expected = expected_protects(self.module)
         if not self.codes and called_functions(self.module):
-            findings.append("no function of the image is in the object, or its symbols are gone")
-        findings += [f"protect {position} has no barrier" for position in sorted(expected - met)]
-        findings += [
-            f"a barrier stands at {position}, which isn't protected"
-            for position in sorted(met - expected)
-            if not self.program.at(position).is_protected()
-        ]
-        return Checked(findings, self.branches, self.joined, len(expected), barriers)
+            findings.append(NOTHING)
+        findings += self.protects(expected)
+        return Checked(findings, self.branches, self.joined, len(expected), self.barriers)
 
 
-def check_object(module: Module, path: str, name: str) -> Checked:
-    """Checks an object that was compiled of NAME.c."""
-    return Check(module, path, name).run()
+def no_line(_position: int) -> str:
+    return ""
+
+
+def check_object(module: Module, path: str, name: str, line_of: Callable[[int], str] = no_line) -> Checked:
+    """Checks an object that was compiled from NAME.c, or a file that such an object was linked into."""
+    return Check(module, path, name, line_of).run()

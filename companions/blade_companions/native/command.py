@@ -6,24 +6,65 @@ import os
 import sys
 from typing import Optional, Sequence
 
-from ..check import refused_answers
 from ..ending import ended
 from ..formats.reading import Bad
 from ..printing import say
-from ..writing import write_file
-from .building import build, library
-from .checking import Checked, check_object
-from .names import prefix_of
-from .reading import Module, module_at
-from .stack import frames_in, most_bytes
-from .translation import translate
+from .making import DONE, NO, YES, Building, Image, checks, makes, why_not, write
+from .memchecking import tried
+from .names import identifier, prefix_of
 
-DONE, NO, UNREAD = 0, 1, 3
-MOST_FINDINGS = 20  # are printed
+UNREAD = 3
 LEVELS = ("-O1", "-O2", "-O3", "-Os")
 EPILOG = (
-    "Status: 0; 1 if the verdict is no, or an object has what the image doesn't allow; 2 for a usage error; "
-    "3 for other errors."
+    "Status: 0; 1 if the verdict is no, if a file has what the image doesn't allow, or if --test finds "
+    "something; 2 for a usage error; 3 for other errors."
+)
+OPTIONS = (
+    (("-o",), {"dest": "output", "metavar": "NAME.c", "help": "write NAME.c, and NAME.h next to it"}),
+    (
+        ("--certificate",),
+        {"metavar": "FILE", "help": "the certificate (IMAGE with the ending .json, if it is there)"},
+    ),
+    (
+        ("--allow-no",),
+        {
+            "action": "store_true",
+            "help": "translate an image whose verdict is no, or that has no certificate",
+        },
+    ),
+    (
+        ("--module",),
+        {
+            "metavar": "M.wasm",
+            "action": "append",
+            "default": [],
+            "help": "the module that the image was made from, for names of parameters and lines of C; "
+            "give it again for each further module, in their order",
+        },
+    ),
+    (("--object",), {"action": "store_true", "help": "also compile NAME.o, and check it"}),
+    (("--library",), {"action": "store_true", "help": "also make libNAME.a and libNAME.so, and check them"}),
+    (
+        ("--check",),
+        {"metavar": "FILE", "help": "check an object, a shared library or a program that contains NAME.o"},
+    ),
+    (("--name",), {"metavar": "NAME", "help": "with --check: the NAME of NAME.c (that of FILE)"}),
+    (
+        ("--test",),
+        {"metavar": "[EXPORT=]START", "help": "run a start file under memcheck, with undefined secrets"},
+    ),
+    (
+        ("--cc",),
+        {"default": os.environ.get("CC", "clang"), "metavar": "COMPILER", "help": "clang (default) or gcc"},
+    ),
+    (
+        ("--level",),
+        {"default": "-O2", "choices": LEVELS, "help": "how to optimise: -O1, -O2 (default), -O3, -Os"},
+    ),
+    (
+        ("--blade",),
+        {"metavar": "PROGRAM", "help": "the program that verifies (BLADE, else the one found here)"},
+    ),
 )
 
 
@@ -34,42 +75,16 @@ def words_of(words: Sequence[str]) -> argparse.Namespace:
         epilog=EPILOG,
         description="Translates a hardened image to C11, with its protects as speculation barriers.",
     )
-    add = parser.add_argument
-    add("image", metavar="IMAGE", help="an image that blade has hardened")
-    add("-o", dest="output", metavar="NAME.c", help="write NAME.c, and NAME.h next to it")
-    add(
-        "--certificate",
-        metavar="FILE",
-        help="the image's certificate (IMAGE with the ending .json, if it is there)",
-    )
-    add(
-        "--allow-no",
-        action="store_true",
-        help="translate an image whose verdict is no, or that has no certificate",
-    )
-    add("--object", action="store_true", help="also compile NAME.o, and check it")
-    add("--library", action="store_true", help="also make libNAME.a and libNAME.so of the checked object")
-    add("--check", metavar="NAME.o", help="check an object or a linked file that was compiled of NAME.c")
-    add("--cc", default=os.environ.get("CC", "clang"), metavar="COMPILER", help="clang (default) or gcc")
-    add(
-        "--level",
-        default="-O2",
-        metavar="LEVEL",
-        choices=LEVELS,
-        help="how to optimise: -O1, -O2 (default), -O3, -Os",
-    )
-    add(
-        "--blade",
-        metavar="PROGRAM",
-        help="the program that verifies (BLADE, else that of this release or clone)",
-    )
+    parser.add_argument("image", metavar="IMAGE", help="an image that blade has hardened")
+    for names, settings in OPTIONS:
+        parser.add_argument(*names, **settings)
     given = parser.parse_args(list(words))
-    if not given.output and not given.check:
-        parser.error("nothing to do: give -o NAME.c or --check NAME.o")
+    if not given.output and not given.check and not given.test:
+        parser.error("nothing to do: give -o NAME.c, --check FILE or --test START")
     if (given.object or given.library) and not given.output:
         parser.error("--object and --library need -o NAME.c")
-    if given.output and not given.output.endswith(".c"):
-        parser.error("the output is a C file, as NAME.c")
+    if given.output and os.path.basename(given.output) != f"{prefix_of(given.output)}.c":
+        parser.error(f"the output is a C file whose name is one of C, as {prefix_of(given.output)}.c")
     return given
 
 
@@ -79,72 +94,41 @@ def certificate_of(given: argparse.Namespace) -> Optional[str]:
     return given.certificate or (beside if os.path.isfile(beside) else None)
 
 
-def why_not(given: argparse.Namespace) -> Optional[str]:
-    """Why the image may not be translated: it isn't verified. None if it may."""
-    certificate = certificate_of(given)
-    if certificate is None:
-        return "there is no certificate: give it by --certificate FILE"
-    refused = refused_answers(given.blade, given.image, certificate)
-    return f"blade verify says no: {', '.join(refused)}" if refused else None
+def name_in(path: str) -> str:
+    """The NAME that a file is called by: NAME.o, libNAME.so, or NAME."""
+    base = os.path.basename(path).partition(".")[0]
+    return prefix_of(base[3:] if base.startswith("lib") and ".so" in path else base)
 
 
-def write(module: Module, output: str, verdict: str) -> None:
-    """Writes NAME.c and NAME.h."""
-    translation = translate(module, prefix_of(output), verdict)
-    write_file(f"{output[:-2]}.h", translation.header.encode("ascii"))
-    write_file(output, translation.source.encode("ascii"))
-
-
-def summary(path: str, checked: Checked) -> str:
-    """What a check looked at, in a line."""
-    return (
-        f"{os.path.basename(path)}: {checked.branches} branches ({checked.joined} without a line), "
-        f"{checked.protects} protects, {checked.barriers} barriers, {len(checked.findings)} findings"
-    )
-
-
-def checks(module: Module, path: str) -> int:
-    """Checks an object, prints what was found, and gives the status."""
-    if not os.path.exists(path):
-        raise Bad(f"there is no {path}")
-    checked = check_object(module, path, prefix_of(path))
-    for finding in checked.findings[:MOST_FINDINGS]:
-        say(finding, sys.stderr)
-    say(summary(path, checked))
-    return NO if checked.findings else DONE
-
-
-def compiles(module: Module, given: argparse.Namespace) -> int:
-    """Compiles NAME.o, checks it, and says how much of the stack a call may take. A library is made of what
-    passed."""
-    stem = given.output[:-2]
-    more = ["-c", "-fstack-usage", *(["-fPIC"] if given.library else [])]
-    build(given.cc, given.output, f"{stem}.o", given.level, more)
-    status = checks(module, f"{stem}.o")
-    most = most_bytes(module.calls(), frames_in(f"{stem}.su"))
-    say(f"stack: at most {most:,} bytes for a call and all that it calls")
-    os.unlink(f"{stem}.su")
-    if given.library and status == DONE:
-        library(given.cc, f"{stem}.o")
-    return status
+def verdict_of(given: argparse.Namespace) -> Optional[str]:
+    """What NAME.c says of the verdict; None if the image may not be translated."""
+    fault = why_not(given.blade, given.image, certificate_of(given))
+    if fault and not given.allow_no:
+        say(f"blade-native: {fault}; --allow-no translates it all the same", sys.stderr)
+        return None
+    if fault:
+        say(f"blade-native: warning: {fault}", sys.stderr)
+    return fault or YES
 
 
 def work(words: Sequence[str]) -> int:
     """Does what the words ask for."""
     given = words_of(words)
-    fault, status = why_not(given) if given.output else None, DONE
-    if fault and not given.allow_no:
-        say(f"blade-native: {fault}; --allow-no translates it all the same", sys.stderr)
+    verdict = verdict_of(given) if given.output else YES
+    if verdict is None:
         return NO
-    if fault:
-        say(f"blade-native: warning: {fault}", sys.stderr)
-    module = module_at(given.image)
+    image, status = Image.at(given.image, given.module), DONE
     if given.output:
-        write(module, given.output, fault or "blade verify says yes to all four questions")
+        write(image, given.output, verdict)
     if given.object or given.library:
-        status = compiles(module, given)
+        status = makes(image, Building(given.cc, given.level, given.library), given.output)
     if given.check:
-        status = max(status, checks(module, given.check))
+        if not os.path.isfile(given.check):
+            raise Bad(f"there is no {given.check}")
+        name = identifier(given.name) if given.name else name_in(given.check)
+        status = max(status, DONE if checks(image, given.check, name) else NO)
+    if given.test:
+        status = max(status, DONE if tried(image, given.test, given.cc, given.level) else NO)
     return status
 
 

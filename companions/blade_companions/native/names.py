@@ -22,10 +22,21 @@ fill address outside longjmp setjmp""".split()
 )
 
 
+MACROS = frozenset("errno assert stdin stdout stderr unix linux i386 near far small offsetof".split())
+
+
 def identifier(text: str) -> str:
     """Letters, digits and underscores of a text; it doesn't begin with a digit."""
     word = re.sub(r"[^0-9A-Za-z]+", "_", text).strip("_") or "unnamed"
     return f"n{word}" if word[0].isdigit() else word
+
+
+def is_parameter(text: str) -> bool:
+    """Whether a parameter may have this name in NAME.h: no keyword, no type, nothing that C's headers like to
+    define as a macro, and none of the names that the header gives by itself."""
+    is_plain = re.fullmatch(r"[a-z][a-z0-9_]{0,62}", text) is not None and "__" not in text
+    is_own = re.fullmatch(r"[mpr]|[pr][0-9]+", text) is not None or text.endswith("_t")
+    return is_plain and not is_own and text not in KEYWORDS and text not in MACROS
 
 
 def prefix_of(path: str) -> str:

@@ -3,13 +3,14 @@ from __future__ import annotations
 
 import os
 import re
-from typing import Iterator, List, NamedTuple, Tuple
+from typing import Iterator, List, NamedTuple, Optional, Tuple
 
 from .emission import Emission, FunctionEmission
 from .exactness import check_exactness
 from .header import Export, header, heading
 from .names import export_names
 from .operators import C_TYPES
+from .origin import Origin
 from .reading import Module
 from .widths import widths_of
 
@@ -24,6 +25,7 @@ TEXTS = (
     "uninitialized element",
     "indirect call type mismatch",
     "call stack exhausted",
+    "the stack of C is too small",
 )
 INCLUDES = ("setjmp.h", "stddef.h", "stdlib.h", "string.h", "sys/mman.h")
 ROW = 16
@@ -133,8 +135,8 @@ void {name}_reset({name} *m)
 
 def entry(emission: Emission, export: Export) -> List[str]:
     """The function of an export."""
-    results, parameters = list(emission.results(export.number)), emission.parameters(export.number)
-    words = ["m"] + ["1u"] * emission.counts_depth + [f"p{index}" for index in range(len(parameters))]
+    results = list(emission.results(export.number))
+    words = ["m"] + ["1u"] * emission.counts_depth + list(export.parameters(emission))
     call = f"f{export.number}({', '.join(words)});"
     if len(results) == 1:
         call = f"*r0 = {call}"
@@ -143,6 +145,7 @@ def entry(emission: Emission, export: Export) -> List[str]:
         call = f"struct results{export.number} r = {call} {given}"
     return f"""{heading(emission, export)}
 {{
+    if (!HAS_STACK) return {emission.name.upper()}_STACK_TOO_SMALL;
     if (setjmp(m->home)) return ({emission.name}_end)m->end;
     {call}
     return {emission.name.upper()}_OK;
@@ -220,15 +223,26 @@ const char *{name}_end_text({name}_end end)
     )
 
 
-def translate(module: Module, name: str, verdict: str = "not verified") -> Translation:
+def exports_of(module: Module, origin: Optional[Origin] = None) -> List[Export]:
+    """The exports, with the names of parameters that the module gives."""
+    found = []
+    for word, number, name in export_names(module.program.exports):
+        count = len(module.parameter_types[number])
+        found.append(Export(word, number, name, origin.parameters(number, count) if origin else ()))
+    return found
+
+
+def translate(
+    module: Module, name: str, verdict: str = "not verified", origin: Optional[Origin] = None
+) -> Translation:
     """The C of an image; one that C's variables can't stand for is refused."""
     check_exactness(module)
     verdict = re.sub(r"[^a-z0-9 :,.-]", "?", verdict)  # it goes into a comment of C
     emission = Emission(module, widths_of(module), name)
-    exports = [Export(*one) for one in export_names(module.program.exports)]
+    exports = exports_of(module, origin)
     includes = "".join(f"#include <{one}>\n" for one in INCLUDES)
     head = f"""/* Made by blade-native ({verdict}): compile it with `blade-native --object`. */
-#define _DEFAULT_SOURCE
+#define _GNU_SOURCE
 #include "{name}.h"
 {includes}
 {part("prelude.h")}

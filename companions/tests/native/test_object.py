@@ -9,6 +9,7 @@ import outcomes  # noqa: F401
 from images import I32, JUMP, LOAD, MOVE, OUT, RET, SELECT, SET, TEST, Function, K, bounded, image
 from blade_companions.native.building import build
 from blade_companions.native.checking import Checked, check_object
+from blade_companions.formats.reading import Bad
 from blade_companions.native.reading import module_of
 from blade_companions.native.translation import translate
 
@@ -120,6 +121,19 @@ class Objects(unittest.TestCase):
     def test_an_object_without_lines(self):
         """Nothing is known of its branches, so none passes."""
         self.found("a branch that no Test of the image has.*no line", more=["-g0"])
+
+    def test_other_files_are_refused(self):
+        """What isn't an ELF file of x86-64 is refused, and so is a program at a fixed address."""
+        head = bytearray(b"\x7fELF\2\1" + bytes(10) + b"\2\0\x3e\0")
+        other = bytearray(head)
+        other[16:20] = b"\1\0\xb7\0"
+        archive = b"!<arch>\n" + bytes(20)
+        for contents, why in ((b"", "only ELF"), (archive, "only ELF"), (head, "-pie"), (other, "only ELF")):
+            with tempfile.NamedTemporaryFile() as file:
+                file.write(contents)
+                file.flush()
+                with self.assertRaisesRegex(Bad, why):
+                    check_object(module_of(looked_up()), file.name, "tried")
 
     def test_cases_stay_branches(self):
         for compiler in COMPILERS:

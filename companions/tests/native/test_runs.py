@@ -26,7 +26,8 @@ from images import (
     image,
 )
 from blade_companions.native.emission import counts_depth
-from blade_companions.native.stack import most_bytes
+from blade_companions.native.stack import SYSTEM, frames_in, most_bytes, most_of_functions
+from blade_companions.formats.reading import Bad
 
 ADD, SUB, GT_U = 0x6A, 0x6B, 0x4B
 TRAPS = (
@@ -213,8 +214,18 @@ class Runs(unittest.TestCase):
         return [(*(int(one, 16) for one in place.split("-")), rights) for place, rights in rows]
 
     def test_the_stack_is_known(self):
-        self.assertEqual(most_bytes([set(), {0}, {0, 1}], {0: 16, 1: 32, 2: 8}), 56)
-        self.assertEqual(most_bytes([{0}], {0: 16}), 1024 * 16)
+        self.assertEqual(most_of_functions([set(), {0}, {0, 1}], {0: 16, 1: 32, 2: 8}), 56)
+        self.assertEqual(most_of_functions([{0}], {0: 16}), 1024 * 16)
+        with open(f"{self.folder}/tried.su", "w", encoding="ascii") as file:
+            file.write("t.image:7:f0\t8\tstatic\nt.image:7:f0.part.0\t16\tstatic\nt.c:9:t_f0\t40\tstatic\n")
+        frames = frames_in(f"{self.folder}/tried.su")
+        self.assertEqual((frames.functions, frames.other), ({0: 40}, 48))
+        self.assertEqual(most_bytes([set()], frames), 40 + 2 * 48 + SYSTEM)
+
+    def test_a_frame_of_unknown_size_is_refused(self):
+        with open(f"{self.folder}/tried.su", "w", encoding="ascii") as file:
+            file.write("t.image:7:f0\t8\tdynamic\n")
+        self.assertRaises(Bad, frames_in, f"{self.folder}/tried.su")
 
     def test_cpp_takes_the_header(self):
         translation = translate(
