@@ -1,5 +1,5 @@
-# For benches of libraries, which source it: makes a program over copies of crates, in a folder of its own, and proves and builds it as any other.
-# shellcheck shell=bash
+# For benches of libraries, which source it: makes a program over copies of crates, in a folder of its own,
+# and proves and builds it as any other. shellcheck shell=bash
 top=$(cd "$(dirname "${BASH_SOURCE[0]}")/.." && pwd)
 work=$(mktemp -d)
 trap 'rm -rf "$work"' EXIT
@@ -28,7 +28,8 @@ copy_parts() {
     : > "$measure/specs/Lib.antt"
 }
 
-# Builds programs/NAME.rt.txt as out/measure of the folder that is the current one then: build NAME CRATE.., the crates that it names.
+# Builds programs/NAME.rt.txt as out/measure of the folder that is the current one then: build NAME CRATE.., the
+# crates that it names.
 build() {
     local name=$1
     shift

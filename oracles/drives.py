@@ -1,6 +1,7 @@
 #!/usr/bin/env python3
-"""Prints what tests of `predict` expect: the trace and the counts of drives of the images there, and the hits and misses of accesses. It knows the
-rules of the predictor and of the cache, has the buffer machine of traces.py, and shares no code with Blade. usage: python3 oracles/drives.py"""
+"""Prints what tests of `predict` expect: the trace and the counts of drives of the images there, and the hits
+and misses of accesses. It knows the rules of the predictor and of the cache, has the buffer machine of
+traces.py, and shares no code with Blade. usage: python3 oracles/drives.py"""
 from images import IMAGES
 from spell import leb
 from traces import Machine, read_image, shortened, read_start
@@ -24,7 +25,8 @@ class Lines:
 
 
 def chosen(machine):
-    """The entry that a drive executes: the first load that can be, else the first entry; None where none can be."""
+    """The entry that a drive executes: the first load that can be, else the first entry; None where none can
+    be."""
     ready = [n for n in range(len(machine.entries)) if machine.ready(n) is not None]
     return next((n for n in ready if machine.entries[n].kind == 'load'), ready[0] if ready else None)
 
@@ -73,26 +75,33 @@ def drive(data, export, start, most=1000000):
 
 HEAD = b'BLIM\1'
 # Set v0 = i32.sub v0 1; Test v0 7 9; Out 0 v0; Ret
-LOOP = HEAD + bytes.fromhex('00 00 01 01 7F 00 01 7F 02 04 01 03 6D 2F 66 00 00 00 6B 00 00 00 01 01 03 00 00 07 09 07 00 00 00 00 08')
+LOOP = HEAD + bytes.fromhex('00 00 01 01 7F 00 01 7F 02 04 01 03 6D 2F 66 00 00 00 6B 00 00 00 01 01 03 00 '
+                            '00 07 09 07 00 00 00 00 08')
 PLACES = [4096 * n for n in (0, 1, 2, 3, 4, 5, 6, 7, 8, 1, 0)]
 
 
 def load_at(place, position):
     """Set v3 = Move place; Set v4 = Outside v3 v0 4; Test v4 3 next; Load v2 at v3"""
-    return (bytes.fromhex('00 00 00 03 01') + leb(place) + bytes.fromhex('00 00 01 04 00 03 00 00 01 04 03 00 04 03') + leb(position + 3)
+    return (bytes.fromhex('00 00 00 03 01') + leb(place)
+            + bytes.fromhex('00 00 01 04 00 03 00 00 01 04 03 00 04 03') + leb(position + 3)
             + bytes.fromhex('01 00 28 00 02 00 00 03'))
 
 
-# A load at each of the places, which are nine lines of one list, and the second and the first of them again; Out 0 v2; Ret
-NINE = (HEAD + bytes.fromhex('00 01 01 01 00 00 01 00 01 7F 04') + bytes([4 * len(PLACES) + 2]) + bytes.fromhex('01 03 6D 2F 66 00')
-        + b''.join(load_at(place, 7 + 4 * n) for n, place in enumerate(PLACES)) + bytes.fromhex('07 00 00 00 02 08'))
-DRIVES = [('INC', IMAGES['ADD_ONE_IMAGE'], 'inc/inc', [41]), ('LOADS', IMAGES['LOADS_IMAGE'], 'm/f', [0]), ('LOADS', IMAGES['LOADS_IMAGE'], 'm/f', [65536]), ('LOOP', LOOP, 'm/f', [40]),
+# A load at each of the places, which are nine lines of one list, and the second and the first of them again;
+# Out 0 v2; Ret
+NINE = (HEAD + bytes.fromhex('00 01 01 01 00 00 01 00 01 7F 04') + bytes([4 * len(PLACES) + 2])
+        + bytes.fromhex('01 03 6D 2F 66 00')
+        + b''.join(load_at(place, 7 + 4 * n) for n, place in enumerate(PLACES))
+        + bytes.fromhex('07 00 00 00 02 08'))
+DRIVES = [('INC', IMAGES['ADD_ONE_IMAGE'], 'inc/inc', [41]), ('LOADS', IMAGES['LOADS_IMAGE'], 'm/f', [0]),
+          ('LOADS', IMAGES['LOADS_IMAGE'], 'm/f', [65536]), ('LOOP', LOOP, 'm/f', [40]),
           ('NINE', NINE, 'm/f', [])]
 
 
 def main():
     for name, image, export, arguments in DRIVES:
-        line, outcome, trace = drive(image, export, read_start(''.join(f'arg {value}\n' for value in arguments)))
+        line, outcome, trace = drive(image, export,
+                                     read_start(''.join(f'arg {value}\n' for value in arguments)))
         print(f'{name} {arguments}: {line}; {outcome}; {", ".join(shortened(trace))}')
     print('NINE =', ', '.join(f'0x{byte:02X}' for byte in NINE))
     print('LOOP =', ', '.join(f'0x{byte:02X}' for byte in LOOP))

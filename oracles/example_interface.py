@@ -1,12 +1,14 @@
 #!/usr/bin/env python3
-"""Writes the worked example of joined programs, the file of definitions Example of bl_iface: a client and a library, as they are lowered from two small
-modules by the rules of lowering, worked by hand, the interface between them, and the program that they are joined to. That one is made here by what
-docs/CLI.md and FORMATS say of `join`. It shares no code with Blade. usage: python3 oracles/example_interface.py > crates/bl_iface/specs/Example.antt"""
+"""Writes the worked example of joined programs, the file of definitions Example of bl_iface: a client and a
+library, as they are lowered from two small modules by the rules of lowering, worked by hand, the interface
+between them, and the program that they are joined to. That one is made here by what docs/CLI.md and FORMATS
+say of `join`. It shares no code with Blade. usage: python3 oracles/example_interface.py >
+crates/bl_iface/specs/Example.antt"""
 from dataclasses import dataclass, replace
 
-# The client's `g x` is f(x), loaded, plus the global, given to f, by whose answer the memory grows; where that isn't 0 the global becomes 7; and f(x) is
-# given. Its stub stands for both functions of the library. v0 is the global, v1 the memory's size, v2 and v3 belong to the stub, v4 and v5 are g's
-# parameter and result.
+# The client's `g x` is f(x), loaded, plus the global, given to f, by whose answer the memory grows; where
+# that isn't 0 the global becomes 7; and f(x) is given. Its stub stands for both functions of the library. v0
+# is the global, v1 the memory's size, v2 and v3 belong to the stub, v4 and v5 are g's parameter and result.
 CLIENT = """
 7 jump 8
 8 trap Unreachable
@@ -42,8 +44,8 @@ CLIENT = """
 38 out 0 v18
 39 ret
 """
-# The library's `f x` loads at x, and `h x` gives f of x and its global together. v0 is the global, v1 the memory's size, v2 and v3 are f's parameter and
-# result, v7 and v8 those of h.
+# The library's `f x` loads at x, and `h x` gives f of x and its global together. v0 is the global, v1 the
+# memory's size, v2 and v3 are f's parameter and result, v7 and v8 those of h.
 LIBRARY = """
 7 jump 8
 8 set v4 Move v2 protected
@@ -62,15 +64,17 @@ LIBRARY = """
 21 out 0 v12
 22 ret
 """
-TRAPS = ['Unreachable', 'DivideByZero', 'Overflow', 'OutOfBounds', 'UndefinedElement', 'UninitializedElement', 'TypeMismatch']
+TRAPS = ['Unreachable', 'DivideByZero', 'Overflow', 'OutOfBounds', 'UndefinedElement', 'UninitializedElement',
+         'TypeMismatch']
 # The functions of the interface: the name, what it asks of the parameter, and of the result.
 IFACE = [('lib/f', 'Transient', 'Stable'), ('lib/h', 'Transient', 'Transient')]
 
 
 @dataclass
 class Program:
-    """Globals are first values, memories (pages, reserve), functions (variables, commands), each from an i32 to an i32; exports (name, function),
-    demands (function, index) or (None, global), weights (position, weight); commands are their words."""
+    """Globals are first values, memories (pages, reserve), functions (variables, commands), each from an i32
+    to an i32; exports (name, function), demands (function, index) or (None, global), weights (position,
+    weight); commands are their words."""
     globals: list
     memories: list
     functions: list
@@ -99,7 +103,8 @@ def listed(text):
 def parts():
     client = Program([5], [(1, 2)], [(2, 2), (15, 31)], [('lib/f', 0), ('lib/h', 0), ('main/g', 1)],
                      [(0, 0), (1, 0), (None, 0)], [(10, 3), (13, 4)], listed(CLIENT))
-    library = Program([9], [(1, 256)], [(5, 7), (6, 9)], [('lib/f', 0), ('lib/h', 1)], [(1, 0), (None, 0)], [(9, 2)], listed(LIBRARY))
+    library = Program([9], [(1, 256)], [(5, 7), (6, 9)], [('lib/f', 0), ('lib/h', 1)], [(1, 0), (None, 0)],
+                      [(9, 2)], listed(LIBRARY))
     return client, library
 
 
@@ -112,7 +117,8 @@ def renamed(commands, variable, position, function, memory):
     """Commands by other numbers; each load gets its memory as a word behind it."""
     out = []
     for words in commands:
-        new = [f'v{variable(int(word[1:]))}' if word[0] == 'v' and word[1:].isdigit() else word for word in words]
+        new = [f'v{variable(int(word[1:]))}' if word[0] == 'v' and word[1:].isdigit() else word
+               for word in words]
         for at in POSITIONS.get(words[0], []):
             new[at] = str(position(int(words[at])))
         if words[0] in FUNCTIONS:
@@ -124,20 +130,23 @@ def renamed(commands, variable, position, function, memory):
 
 
 def joined(client, library):
-    """The client's functions and the library's behind them. Globals come first, then sizes, then what belongs to functions. What the client calls by a
-    name of the interface goes to the library's function of that name, the first name where it has several."""
+    """The client's functions and the library's behind them. Globals come first, then sizes, then what belongs
+    to functions. What the client calls by a name of the interface goes to the library's function of that
+    name, the first name where it has several."""
     names = [name for name, _, _ in IFACE]
     of_library, leads = dict(library.exports), {}
     for name, function in client.exports:
         if name in names:
             leads.setdefault(function, of_library[name])
-    whole = Program(client.globals + library.globals, client.memories + library.memories, client.functions + library.functions, [], [], [], [])
+    whole = Program(client.globals + library.globals, client.memories + library.memories,
+                    client.functions + library.functions, [], [], [], [])
     own = {client.result(function): len(client.functions) + to for function, to in leads.items()}
 
     def of_client(x):
         if x < len(client.globals):
             return x
-        return whole.result(own[x]) if x in own else x + library.statics() if x >= client.statics() else x + len(library.globals)
+        return (whole.result(own[x]) if x in own else x + library.statics() if x >= client.statics()
+                else x + len(library.globals))
 
     def of_the_library(x):
         if x < len(library.globals):
@@ -147,14 +156,18 @@ def joined(client, library):
         return x + client.statics() + sum(variables for variables, _ in client.functions)
 
     far = len(client.commands)
-    whole.commands = renamed(client.commands, of_client, lambda p: p, lambda f: len(client.functions) + leads[f] if f in leads else f, 0)
-    whole.commands += renamed(library.commands, of_the_library, lambda p: p + far if p >= 7 else p, lambda f: f + len(client.functions), len(client.memories))
+    whole.commands = renamed(client.commands, of_client, lambda p: p,
+                             lambda f: len(client.functions) + leads[f] if f in leads else f, 0)
+    whole.commands += renamed(library.commands, of_the_library, lambda p: p + far if p >= 7 else p,
+                              lambda f: f + len(client.functions), len(client.memories))
     behind = [(name, function + len(client.functions)) for name, function in library.exports]
     whole.exports = [one for one in client.exports if one[0] not in names] + behind
     results = [one for one in client.demands if one[0] is not None]
-    results += [(function + len(client.functions), index) for function, index in library.demands if function is not None]
+    results += [(function + len(client.functions), index) for function,
+                index in library.demands if function is not None]
     globals_ = [one for one in client.demands if one[0] is None]
-    globals_ += [(None, index + len(client.globals)) for function, index in library.demands if function is None]
+    globals_ += [(None, index + len(client.globals)) for function,
+                 index in library.demands if function is None]
     whole.demands = results + globals_
     whole.weights = client.weights + [(position + far, weight) for position, weight in library.weights]
     return whole
@@ -187,7 +200,8 @@ def command(words):
         return f'(Arg {mark} {words[0]} {words[1]} {operand(words[2])})'
     if name == 'out':
         return f'(Out {mark} {words[0]} {operand(words[1])})'
-    return {'jump': lambda: f'(Jump {boxed(words[0])})', 'call': lambda: f'(Call {words[0]})', 'ret': lambda: 'Ret',
+    return {'jump': lambda: f'(Jump {boxed(words[0])})', 'call': lambda: f'(Call {words[0]})',
+            'ret': lambda: 'Ret',
             'trap': lambda: f'(Trap trap.{words[0]})'}[name]()
 
 
@@ -210,15 +224,22 @@ def items(head, these):
 def definition(name, program):
     i32 = '((record { kind = value.I32; label = label.Public }) ∷ [])'
     lines = [f'abbrev pub {name} : Program', f'{name} = record {{']
-    lines += items('globals = ', [f'(record {{ kind = value.I32; label = label.Public; first = {first} }})' for first in program.globals])
-    lines += items('memories = ', [f'(record {{ pages = {pages}; reserve = {reserve}; label = label.Public; rows = [] }})' for pages, reserve in program.memories])
-    lines += items('functions = ', [f'(record {{ params = {i32}; results = (value.I32 ∷ []); vars = {count}; length = {length} }})'
+    lines += items('globals = ', [f'(record {{ kind = value.I32; label = label.Public; first = {first} }})'
+                                  for first in program.globals])
+    lines += items('memories = ', [f'(record {{ pages = {pages}; reserve = {reserve}; label = label.Public; '
+                                   f'rows = [] }})' for pages, reserve in program.memories])
+    lines += items('functions = ', [f'(record {{ params = {i32}; results = (value.I32 ∷ []); vars = {count}; '
+                                    f'length = {length} }})'
                                     for count, length in program.functions])
-    lines += items('exports = ', [f'(record {{ name = {bytes_of(export)}; function = {function} }})' for export, function in program.exports])
-    lines += items('commands = ', [f'(Trap trap.{trap})' for trap in TRAPS] + [command(words) for words in program.commands])
-    lines += items('demands = ', [f'(demand.Global {index})' if function is None else f'(demand.Result {function} {index})'
+    lines += items('exports = ', [f'(record {{ name = {bytes_of(export)}; function = {function} }})'
+                                  for export, function in program.exports])
+    lines += items('commands = ',
+                   [f'(Trap trap.{trap})' for trap in TRAPS] + [command(words) for words in program.commands])
+    lines += items('demands = ',
+                   [f'(demand.Global {index})' if function is None else f'(demand.Result {function} {index})'
                                   for function, index in program.demands])
-    lines += items('weights = ', [f'(record {{ at = {boxed(position)}; weight = {weight} }})' for position, weight in program.weights])
+    lines += items('weights = ', [f'(record {{ at = {boxed(position)}; weight = {weight} }})' for position,
+                                  weight in program.weights])
     return lines + ['}', '']
 
 
@@ -246,9 +267,11 @@ def alone(program):
 if __name__ == '__main__':
     client, library = parts()
     print(HEAD)
-    for name, program in (('client', alone(client)), ('library', alone(library)), ('whole', joined(client, library))):
+    for name, program in (('client', alone(client)), ('library', alone(library)),
+                          ('whole', joined(client, library))):
         print('\n'.join(definition(name, program)))
     print('abbrev pub iface : Iface\niface = record {')
-    print('\n'.join(items('functions = ', [f'(record {{ name = {bytes_of(name)}; params = (flow.{params} ∷ []); results = (flow.{results} ∷ []) }})'
+    print('\n'.join(items('functions = ', [f'(record {{ name = {bytes_of(name)}; params = (flow.{params} ∷ '
+                                           f'[]); results = (flow.{results} ∷ []) }})'
                                            for name, params, results in IFACE])))
     print('}')

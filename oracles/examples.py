@@ -1,11 +1,13 @@
 #!/usr/bin/env python3
-"""Prints the modules of `examples/` as arrays, as they are committed there. usage: python3 oracles/examples.py"""
+"""Prints the modules of `examples/` as arrays, as they are committed there. usage: python3
+oracles/examples.py"""
 import pathlib
 
 HERE = pathlib.Path(__file__).resolve().parent
 MODULES = [
     ("lookup", "A table lookup by a secret index."),
-    ("masked", "The same with a mask over the whole table, as clang gives it: one local is the index and then a counter."),
+    ("masked", "The same with a mask over the whole table, as clang gives it: one local is the "
+     "index and then a counter."),
     ("masked_ssa", "The same after `wasm-opt --untee --ssa`, which gives them two."),
     ("compare", "The comparison of two tags in a secret memory."),
     ("quarter", "ChaCha20's quarter round in a secret memory."),

@@ -1,6 +1,7 @@
 #!/usr/bin/env python3
-"""Prints what tests of flows expect, by networkx: for each network the maximum flow, and how many in parts and how many out parts the
-residual network reaches from the starts. usage: python3 oracles/flows.py (networkx 3.6.1 made the numbers that stand)"""
+"""Prints what tests of flows expect, by networkx: for each network the maximum flow, and how many in parts
+and how many out parts the residual network reaches from the starts. usage: python3 oracles/flows.py (networkx
+3.6.1 made the numbers that stand)"""
 import networkx
 
 
@@ -33,8 +34,8 @@ def crossing():
 
 
 def ladder(rungs):
-    """Rung i can be reached by the rails later than rung i - 1, so that the path by it is longer, and takes back what each path
-    before it put on the rungs."""
+    """Rung i can be reached by the rails later than rung i - 1, so that the path by it is longer, and takes
+    back what each path before it put on the rungs."""
     n = Network()
     there = back = None
     firsts, seconds = [], []

@@ -1,6 +1,6 @@
 #!/usr/bin/env python3
-"""Prints the images of the modules that tests lower, and of four that they harden, by the commands that the table of lowering
-gives them, written here by hand as spell.py says, which spells them.
+"""Prints the images of the modules that tests lower, and of four that they harden, by the commands that the
+table of lowering gives them, written here by hand as spell.py says, which spells them.
 
 usage: python3 oracles/images.py"""
 
@@ -108,7 +108,8 @@ image("GROW_AND_STORE_IMAGE", [0, 1, 1, 2, 0, 0, 1, 1, 0x7F, 0, 1, 0x7F, 9, 16] 
 22 ret
 """)
 
-# v0 is the memory's size, v1 the parameter, v2 the result. No module is lowered to this one: its parameter isn't moved.
+# v0 is the memory's size, v1 the parameter, v2 the result. No module is lowered to this one: its parameter
+# isn't moved.
 image("GROWTH_IMAGE", [0, 1, 1, 2, 0, 0, 1, 1, 0x7F, 0, 1, 0x7F, 5, 9] + F + [0], """
 7 set v3 sub 2 v0
 8 set v4 gt_u v1 v3
@@ -178,7 +179,8 @@ image("NESTED_IMAGE", [0, 0, 1, 1, 0x7F, 0, 2, 0x7F, 0x7F, 17, 30] + F + [0], ""
 36 ret
 """)
 
-# v0 to v2 are the parameters, v3 and v4 the results; v7 and v8 are the loop's parameters, v9 and v10 its results.
+# v0 to v2 are the parameters, v3 and v4 the results; v7 and v8 are the loop's parameters, v9 and v10 its
+# results.
 image("SWAPPING_IMAGE", [0, 0, 1, 3, 0x7F, 0, 0x7F, 0, 0x7F, 0, 2, 0x7F, 0x7F, 16, 24] + F + [0], """
 7 jump 8
 8 set v5 move v0
@@ -225,8 +227,8 @@ image("LOOP_IMAGE", [0, 0, 1, 1, 0x7F, 0, 1, 0x7F, 8, 15] + F + [0], """
 21 ret
 """)
 
-# What is hardened: memories of one page without a maximum, v0 being the memory's size. First with the parameters v1 and v2 and the
-# result v3.
+# What is hardened: memories of one page without a maximum, v0 being the memory's size. First with the
+# parameters v1 and v2 and the result v3.
 PAGE = [0, 1, 1, 0x80, 2, 0, 0]
 image("SUM_OF_LOADS_IMAGE", PAGE + [1, 2, 0x7F, 0, 0x7F, 0, 1, 0x7F, 12, 15] + F + [0], """
 7 jump 8

@@ -1,7 +1,8 @@
 #!/usr/bin/env python3
-"""Prints the modules of the tests on interfaces as constants, from their sections as WebAssembly 1.0 has them, what a function of
-them gives, by the few lines below that do what it does, and how long an image is, by the grammar of images. Nothing here knows anything
-else of Blade. Positions that the tests expect were worked by hand.
+"""Prints the modules of the tests on interfaces as constants, from their sections as WebAssembly 1.0 has
+them, what a function of them gives, by the few lines below that do what it does, and how long an image is, by
+the grammar of images. Nothing here knows anything else of Blade. Positions that the tests expect were worked
+by hand.
 
 usage: python3 oracles/interfaces.py"""
 
@@ -17,9 +18,12 @@ def kind(params, results):
 I32, I64 = 0x7F, 0x7E
 
 
-def module(types, imports=(), functions=(), memory=None, globals_=(), exports=(), codes=(), data=(), customs=()):
-    """imports: (module, name, type); exports: (name, function); codes: (locals, body); data: (offset, bytes); customs: (name, bytes)"""
-    bodies = [vector([leb(count) + bytes([t]) for count, t in local]) + body + b'\x0B' for local, body in codes]
+def module(types, imports=(), functions=(), memory=None, globals_=(), exports=(), codes=(), data=(),
+           customs=()):
+    """imports: (module, name, type); exports: (name, function); codes: (locals, body); data: (offset, bytes);
+    customs: (name, bytes)"""
+    bodies = [vector([leb(count) + bytes([t]) for count, t in local]) + body + b'\x0B' for local,
+              body in codes]
     return spell.module([
         (1, vector([kind(*t) for t in types])),
         (2, imports and vector([name(m) + name(f) + b'\0' + leb(t) for m, f, t in imports])),
@@ -47,18 +51,22 @@ SUB = b'\x6B'
 
 ONE = ([I32], [I32])
 
-# the rows: a function that loads from its parameter; its stub; a function that calls it and loads from what it gives
+# the rows: a function that loads from its parameter; its stub; a function that calls it and loads from what
+# it gives
 LIB = module([ONE], functions=[0], memory=1, exports=[('f', 0)], codes=[([], get(0) + LOAD)])
 STUB = module([ONE], functions=[0], exports=[('f', 0)], codes=[([], b'\0')])
-MAIN = module([ONE], imports=[('lib', 'f', 0)], functions=[0], memory=1, exports=[('g', 1)], codes=[([], get(0) + b'\x10\0' + LOAD)])
+MAIN = module([ONE], imports=[('lib', 'f', 0)], functions=[0], memory=1, exports=[('g', 1)],
+              codes=[([], get(0) + b'\x10\0' + LOAD)])
 # a stub of another type
 WIDE = module([([I64], [I32])], functions=[0], exports=[('f', 0)], codes=[([], b'\0')])
 # a client that calls it with a constant of that type
-WIDE_MAIN = module([([I64], [I32]), ONE], imports=[('lib', 'f', 0)], functions=[1], exports=[('g', 1)], codes=[([], b'\x42\0\x10\0')])
+WIDE_MAIN = module([([I64], [I32]), ONE], imports=[('lib', 'f', 0)], functions=[1], exports=[('g', 1)],
+                   codes=[([], b'\x42\0\x10\0')])
 
-# a library with a global, which starts at 5, and a memory, whose word at 4 is 7: `f x` adds x to the global and gives the global with the word
-# at 4; `h x` gives x + 1
-COUNTS = module([ONE], functions=[0, 0], memory=1, globals_=[5], exports=[('f', 0), ('h', 1)], data=[(4, b'\7')], codes=[
+# a library with a global, which starts at 5, and a memory, whose word at 4 is 7: `f x` adds x to the global
+# and gives the global with the word at 4; `h x` gives x + 1
+COUNTS = module([ONE], functions=[0, 0], memory=1, globals_=[5], exports=[('f', 0), ('h', 1)],
+                data=[(4, b'\7')], codes=[
     ([], b'\x23\0' + get(0) + ADD + b'\x24\0' + b'\x23\0' + b'\x41\4' + LOAD + ADD),
     ([], get(0) + b'\x41\1' + ADD),
 ])
@@ -66,19 +74,22 @@ COUNTS = module([ONE], functions=[0, 0], memory=1, globals_=[5], exports=[('f', 
 BOTH = module([ONE], functions=[0], exports=[('f', 0), ('h', 0)], codes=[([], b'\0')])
 # stubs of both
 EACH = module([ONE], functions=[0, 0], exports=[('f', 0), ('h', 1)], codes=[([], b'\0'), ([], b'\0')])
-# a client with a global, which starts at 3, and a memory: `g n` sets a sum to 0 and n times adds f n to it and takes 1 of n, keeps the sum at 8 in the
-# memory, and gives h of the sum and of the global together
-LOOP = b'\x02\x40' + b'\x03\x40' + get(0) + b'\x45' + b'\x0D\1' + get(1) + get(0) + b'\x10\0' + ADD + put(1) + get(0) + b'\x41\1' + SUB + put(0) + b'\x0C\0' + b'\x0B' + b'\x0B'
-SUMS = module([ONE], imports=[('lib', 'f', 0), ('lib', 'h', 0)], functions=[0], memory=1, globals_=[3], exports=[('g', 2)], codes=[
+# a client with a global, which starts at 3, and a memory: `g n` sets a sum to 0 and n times adds f n to it
+# and takes 1 of n, keeps the sum at 8 in the memory, and gives h of the sum and of the global together
+LOOP = b'\x02\x40' + b'\x03\x40' + get(0) + b'\x45' + b'\x0D\1' + get(1) + get(0) + b'\x10\0' + ADD + put(
+    1) + get(0) + b'\x41\1' + SUB + put(0) + b'\x0C\0' + b'\x0B' + b'\x0B'
+SUMS = module([ONE], imports=[('lib', 'f', 0), ('lib', 'h', 0)], functions=[0], memory=1, globals_=[3],
+              exports=[('g', 2)], codes=[
     ([(1, I32)], LOOP + b'\x41\x08' + get(1) + STORE + get(1) + b'\x23\0' + ADD + b'\x10\1'),
 ])
 
-# a library whose `f x` sets a global to x and gives x; it demands that the result be public, or the global. Its client hands on a parameter that
-# is secret
+# a library whose `f x` sets a global to x and gives x; it demands that the result be public, or the global.
+# Its client hands on a parameter that is secret
 GIVES = dict(functions=[0], globals_=[5], exports=[('f', 0)], codes=[([], get(0) + b'\x24\0' + get(0))])
 OWES_RESULT = module([ONE], customs=[('blade.labels', b'\2\1\3\0\0')], **GIVES)
 OWES_GLOBAL = module([ONE], customs=[('blade.labels', b'\2\1\4\0')], **GIVES)
-HANDS = dict(imports=[('lib', 'f', 0)], functions=[0], globals_=[3], exports=[('g', 1)], codes=[([], get(0) + b'\x10\0')])
+HANDS = dict(imports=[('lib', 'f', 0)], functions=[0], globals_=[3], exports=[('g', 1)],
+             codes=[([], get(0) + b'\x10\0')])
 TELLS = module([ONE], customs=[('blade.labels', b'\1\1\0\1\0')], **HANDS)
 HIDES = module([ONE], **HANDS)
 
@@ -103,17 +114,21 @@ def library():
 
 
 def named(*exports):
-    """how many bytes the image of functions has that return at once, each exported under a name of so many bytes"""
+    """how many bytes the image of functions has that return at once, each exported under a name of so many
+    bytes"""
     functions = vector([b'\0\0\0\1' for _ in exports])
-    return 5 + len(b'\0\0' + functions + leb(len(exports))) + sum(len(leb(count)) + count + len(leb(f)) for f, count in enumerate(exports)) + len(exports)
+    return 5 + len(b'\0\0' + functions + leb(len(exports))) + sum(len(leb(count)) + count + len(leb(f)) for f,
+                                                                  count in enumerate(exports)) + len(exports)
 
 
 def constant(title, text):
-    print(f'const {title}: [u8; {len(text)}] = [', *(f'    {row}' for row in spell.rows(text)), '];\n', sep='\n')
+    print(f'const {title}: [u8; {len(text)}] = [', *(f'    {row}' for row in spell.rows(text)), '];\n',
+          sep='\n')
 
 
 if __name__ == '__main__':
-    for title in ('LIB', 'STUB', 'MAIN', 'WIDE', 'WIDE_MAIN', 'COUNTS', 'BOTH', 'EACH', 'SUMS', 'OWES_RESULT', 'OWES_GLOBAL', 'TELLS', 'HIDES'):
+    for title in ('LIB', 'STUB', 'MAIN', 'WIDE', 'WIDE_MAIN', 'COUNTS', 'BOTH', 'EACH', 'SUMS', 'OWES_RESULT',
+                  'OWES_GLOBAL', 'TELLS', 'HIDES'):
         constant(title, globals()[title])
     f, h = library()
     print('// g 3 of SUMS over COUNTS:', sums(3, f, h))

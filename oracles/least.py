@@ -1,7 +1,8 @@
 #!/usr/bin/env python3
-"""Prints small programs as images, and what tests expect of them: the sites of the least protects and
-their weight, found by trying every set of sites, and for a weight of 1 every certificate of one path. It knows the rules of sites,
-sinks and transient variables, and the grammar of images, and shares no code with Blade. usage: python3 oracles/least.py"""
+"""Prints small programs as images, and what tests expect of them: the sites of the least protects and their
+weight, found by trying every set of sites, and for a weight of 1 every certificate of one path. It knows the
+rules of sites, sinks and transient variables, and the grammar of images, and shares no code with Blade.
+usage: python3 oracles/least.py"""
 import itertools
 import random
 
@@ -48,9 +49,11 @@ class Program:
             first += function.vars
 
     def image(self):
-        functions = [vector([bytes([I32, 0])] * it.params) + vector([bytes([I32])] * it.results) + leb(it.vars) + leb(len(it.commands))
+        functions = [vector([bytes([I32, 0])] * it.params) + vector([bytes([I32])] * it.results)
+                     + leb(it.vars) + leb(len(it.commands))
                      for it in self.functions]
-        head = b'\0\1' + leb(1) + leb(256) + b'\0\0' + vector(functions) + vector([spell.name('m/f') + leb(len(functions) - 1)])
+        head = b'\0\1' + leb(1) + leb(256) + b'\0\0' + vector(functions) + vector(
+            [spell.name('m/f') + leb(len(functions) - 1)])
         listed, former = [], -1
         for at in sorted(self.weights):
             listed.append(leb(at - former - 1) + leb(self.weights[at]))
@@ -149,7 +152,8 @@ class Program:
         """The texts of the certificates of one path with an amount of 1."""
         protects, weight = self.least()
         assert weight == 1
-        return ['{"paths":[{"amount":1,"sink":%d,"sites":[%s]}],"weight":1}' % (sink, ','.join(map(str, chain)))
+        return ['{"paths":[{"amount":1,"sink":%d,"sites":[%s]}],"weight":1}' % (sink,
+                                                                                ','.join(map(str, chain)))
                 for chain, sink in self.chains() if sum(at in protects for at in chain) == 1]
 
 
@@ -160,25 +164,32 @@ def guarded(at, depth, test, to, address, offset=0):
 
 
 def rows():
-    load_of_load = [('jump', 0, 8), ('set', 0, MOVE, 3, 1), *guarded(9, 0, 4, 5, 3), *guarded(12, 0, 6, 7, 5), ('out', 0, 0, 7), ('ret', 0)]
+    load_of_load = [('jump', 0, 8), ('set', 0, MOVE, 3, 1), *guarded(9, 0, 4, 5, 3), *guarded(12, 0, 6, 7, 5),
+                    ('out', 0, 0, 7), ('ret', 0)]
     yield 'LOADS', 'A load of a load', Program([Function(1, 1, load_of_load)])
     yield 'WEIGHTED', 'The same with weight 5 listed at 11', Program([Function(1, 1, load_of_load)], {11: 5})
     yield 'SUM', 'A load of the sum of two loads', Program([Function(2, 1, [
-        ('jump', 0, 8), ('set', 0, MOVE, 4, 1), *guarded(9, 0, 5, 6, 4), ('set', 0, MOVE, 7, 2), *guarded(13, 0, 8, 9, 7),
-        ('set', 0, ADD, 10, 6, 9), *guarded(17, 0, 11, 12, 10), ('out', 0, 0, 12), ('ret', 0)])])
+        ('jump', 0, 8), ('set', 0, MOVE, 4, 1), *guarded(9, 0, 5, 6, 4), ('set', 0, MOVE, 7, 2),
+        *guarded(13, 0, 8, 9, 7), ('set', 0, ADD, 10, 6, 9), *guarded(17, 0, 11, 12, 10), ('out', 0, 0, 12),
+        ('ret', 0)])])
     yield 'TWICE', 'Two loads by what one load gives', Program([Function(1, 1, [
-        ('set', 0, MOVE, 3, Const(0)), ('jump', 0, 9), ('set', 0, MOVE, 4, 1), *guarded(10, 0, 5, 6, 4), ('set', 0, MOVE, 3, 6),
-        *guarded(14, 0, 7, 8, 6), ('set', 0, MOVE, 9, 3), *guarded(18, 0, 10, 11, 9, 4), ('set', 0, ADD, 12, 8, 11), ('out', 0, 0, 12), ('ret', 0)])])
-    yield 'BEFORE_LOOP', 'A load before a loop, in which a load reads what it gives', Program([Function(1, 0, [
-        ('set', 0, MOVE, 2, Const(0)), ('jump', 0, 9), ('set', 0, MOVE, 3, 1), *guarded(10, 0, 4, 5, 3), ('set', 0, MOVE, 2, 5), ('jump', 0, 15),
+        ('set', 0, MOVE, 3, Const(0)), ('jump', 0, 9), ('set', 0, MOVE, 4, 1), *guarded(10, 0, 5, 6, 4),
+        ('set', 0, MOVE, 3, 6), *guarded(14, 0, 7, 8, 6), ('set', 0, MOVE, 9, 3),
+        *guarded(18, 0, 10, 11, 9, 4), ('set', 0, ADD, 12, 8, 11), ('out', 0, 0, 12), ('ret', 0)])])
+    yield 'BEFORE_LOOP', 'A load before a loop, in which a load reads what it gives', Program(
+        [Function(1, 0, [
+        ('set', 0, MOVE, 2, Const(0)), ('jump', 0, 9), ('set', 0, MOVE, 3, 1), *guarded(10, 0, 4, 5, 3),
+        ('set', 0, MOVE, 2, 5), ('jump', 0, 15),
         ('set', 1, MOVE, 6, 2), *guarded(16, 1, 7, 8, 6), ('jump', 1, 20), ('jump', 1, 21), ('ret', 0)])])
     yield 'IN_LOOP', 'A load in a loop, behind which a load reads what it gives', Program([Function(1, 1, [
-        ('set', 0, MOVE, 3, Const(0)), ('jump', 0, 9), ('jump', 0, 10), ('set', 1, MOVE, 4, 1), *guarded(11, 1, 5, 6, 4), ('set', 1, MOVE, 3, 6),
-        ('jump', 1, 16), ('set', 0, MOVE, 7, 3), *guarded(17, 0, 8, 9, 7), ('out', 0, 0, 9), ('ret', 0)])])
+        ('set', 0, MOVE, 3, Const(0)), ('jump', 0, 9), ('jump', 0, 10), ('set', 1, MOVE, 4, 1),
+        *guarded(11, 1, 5, 6, 4), ('set', 1, MOVE, 3, 6), ('jump', 1, 16), ('set', 0, MOVE, 7, 3),
+        *guarded(17, 0, 8, 9, 7), ('out', 0, 0, 9), ('ret', 0)])])
 
 
     yield 'DOUBLED', 'What a load gives, doubled in a loop', Program([Function(1, 0, [
-        ('set', 0, MOVE, 3, 1), *guarded(8, 1, 4, 5, 3), ('set', 1, MOVE, 2, 5), ('set', 1, ADD, 2, 2, 2), ('test', 1, 2, 12, 14), ('ret', 0)])])
+        ('set', 0, MOVE, 3, 1), *guarded(8, 1, 4, 5, 3), ('set', 1, MOVE, 2, 5), ('set', 1, ADD, 2, 2, 2),
+        ('test', 1, 2, 12, 14), ('ret', 0)])])
 
 
 def drawn(seed):
@@ -240,7 +251,8 @@ def drawn(seed):
 
 
 def literal(image):
-    return ''.join(chr(byte) if 0x20 <= byte < 0x7F and chr(byte) not in '"\\' else '\\x%02x' % byte for byte in image)
+    return ''.join(chr(byte) if 0x20 <= byte < 0x7F and chr(byte) not in '"\\' else '\\x%02x' % byte
+                   for byte in image)
 
 
 def show(name, text, program):

@@ -1,11 +1,14 @@
-"""How the oracles spell numbers, sections of modules, and images. It is written from the standard and from FORMATS, and shares nothing with the program or
-the companions.
+"""How the oracles spell numbers, sections of modules, and images. It is written from the standard and from
+FORMATS, and shares nothing with the program or the companions.
 
-A command is its words, as `load v5 v3` or `out 0 v7`: `vN` is a variable, and a number is a constant, a position, a function or an index. The last number
-of a load is its offset, if any. Behind them stand marks: `inside` for each loop round the command, and `protected`."""
+A command is its words, as `load v5 v3` or `out 0 v7`: `vN` is a variable, and a number is a constant, a
+position, a function or an index. The last number of a load is its offset, if any. Behind them stand marks:
+`inside` for each loop round the command, and `protected`."""
 
-OPERATORS = {"move": 0x00, "outside": 0x01, "eqz": 0x45, "eq": 0x46, "gt_u": 0x4B, "add": 0x6A, "sub": 0x6B, "div_u": 0x6E}
-LOADS = {"load": 0x28, "load64": 0x29, "load8_s": 0x2C, "load8_u": 0x2D, "load64_8_s": 0x30, "load64_8_u": 0x31}
+OPERATORS = {"move": 0x00, "outside": 0x01, "eqz": 0x45, "eq": 0x46, "gt_u": 0x4B, "add": 0x6A, "sub": 0x6B,
+             "div_u": 0x6E}
+LOADS = {"load": 0x28, "load64": 0x29, "load8_s": 0x2C, "load8_u": 0x2D, "load64_8_s": 0x30,
+         "load64_8_u": 0x31}
 STORES = {"store": 0x36, "store64": 0x37, "store8": 0x3A, "store64_8": 0x3C}
 MARKS = {"inside": 1, "protected": 8}
 
@@ -50,9 +53,11 @@ def command(words):
         mark += MARKS[words.pop()]
     kind, words, marked = words[0], words[1:], bytes([mark])
     if kind == "set":
-        return b"\0" + marked + bytes([OPERATORS[words[1]]]) + variable(words[0]) + b"".join(map(operand, words[2:]))
+        return b"\0" + marked + bytes([OPERATORS[words[1]]]) + variable(words[0]) + b"".join(
+            map(operand, words[2:]))
     if kind in LOADS:
-        return b"\1" + marked + bytes([LOADS[kind], 0]) + variable(words[0]) + leb(int(words[2]) if words[2:] else 0) + operand(words[1])
+        return b"\1" + marked + bytes([LOADS[kind], 0]) + variable(words[0]) + leb(
+            int(words[2]) if words[2:] else 0) + operand(words[1])
     if kind in STORES:
         return bytes([2, STORES[kind], 0, 0]) + operand(words[0]) + operand(words[1])
     if kind == "test":
@@ -68,7 +73,8 @@ def command(words):
 
 
 def image(head, text):
-    """The image of version 1 with that head, and commands of which each is a line: its position, which counts from 7 on, and its words."""
+    """The image of version 1 with that head, and commands of which each is a line: its position, which counts
+    from 7 on, and its words."""
     spelled = []
     for position, line in enumerate(text.strip().splitlines(), 7):
         at, *words = line.split()

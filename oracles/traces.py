@@ -1,8 +1,10 @@
 #!/usr/bin/env python3
-"""Prints what directives on programs show, as `spec`, `twin` and `forward` do. It has the rules of both buffer machines, written from docs/CLI.md and
-FORMATS, reads images by companions/blade_companions, and shares no code with Blade. Images are spelled by `spell.py` from commands that are written here by hand.
+"""Prints what directives on programs show, as `spec`, `twin` and `forward` do. It has the rules of both
+buffer machines, written from docs/CLI.md and FORMATS, reads images by companions/blade_companions, and shares
+no code with Blade. Images are spelled by `spell.py` from commands that are written here by hand.
 
-Directives are letters: `f` fetches, `y` and `n` predict that the condition isn't 0 or that it is, `r` retires, and a digit executes that entry.
+Directives are letters: `f` fetches, `y` and `n` predict that the condition isn't 0 or that it is, `r`
+retires, and a digit executes that entry.
 
 usage: python3 oracles/traces.py"""
 import itertools
@@ -17,13 +19,14 @@ from blade_companions.formats.running import meaning, read_start, signed
 from images import F, IMAGES, PAGE
 from spell import image as spelled
 
-TRAPS = ['unreachable', 'integer divide by zero', 'integer overflow', 'out of bounds memory access', 'undefined element', 'uninitialized element',
-         'indirect call type mismatch']
+TRAPS = ['unreachable', 'integer divide by zero', 'integer overflow', 'out of bounds memory access',
+         'undefined element', 'uninitialized element', 'indirect call type mismatch']
 PAGE_BYTES, MOST_CALLS = 65536, 1024
 
 
 class Entry:
-    """An entry of the buffer. Its kind is nop, set (which waits for its operands), load, held, done, store, ready, guard or fail."""
+    """An entry of the buffer. Its kind is nop, set (which waits for its operands), load, held, done, store,
+    ready, guard or fail."""
 
     def __init__(self, kind, **fields):
         self.kind, self.to = kind, None
@@ -31,13 +34,16 @@ class Entry:
 
 
 class Machine:
-    """A buffer machine with room for so many entries; on one that forwards a load may take what an older store has."""
+    """A buffer machine with room for so many entries; on one that forwards a load may take what an older
+    store has."""
 
     def __init__(self, image, function, start, room=64, forwards=False):
         self.image, self.room, self.forwards = image, room, forwards
         self.statics = len(image.first_globals) + len(image.memories)
         defined = image.functions[function]
-        self.registers = {(0, at): value for at, value in enumerate(image.first_globals + [memory.pages for memory in image.memories])}
+        self.registers = {(0, at): value for at,
+                          value in enumerate(image.first_globals
+                                             + [memory.pages for memory in image.memories])}
         self.registers.update({(1, defined.first + at): value for at, value in enumerate(start.arguments)})
         self.bases, self.space = [], bytearray()
         for memory in image.memories:
@@ -70,11 +76,14 @@ class Machine:
             one, other = command.targets if guess else command.targets[::-1]
             entry, behind = Entry('guard', sources=sources, guess=guess, other=other, chain=self.chain), one
         elif command.kind in ('Set', 'Arg', 'Out'):
-            to = {'Set': self.register(command.writes, depth), 'Arg': (depth + 1, command.writes), 'Out': (depth - 1, command.writes)}[command.kind]
-            entry = Entry('set', to=to, sources=sources, operator=command.operator if command.kind == 'Set' else 0, protect=command.is_protected)
+            to = {'Set': self.register(command.writes, depth), 'Arg': (depth + 1, command.writes),
+                  'Out': (depth - 1, command.writes)}[command.kind]
+            entry = Entry('set', to=to, sources=sources, operator=command.operator if command.kind == 'Set'
+                          else 0, protect=command.is_protected)
         elif command.kind in ('Load', 'Store'):
             to = self.register(command.writes, depth) if command.kind == 'Load' else None
-            entry = Entry(command.kind.lower(), to=to, sources=sources, command=command, protect=command.is_protected)
+            entry = Entry(command.kind.lower(), to=to, sources=sources, command=command,
+                          protect=command.is_protected)
         elif command.kind == 'Jump':
             entry, behind = Entry('nop'), command.targets[0]
         elif command.kind == 'Call' and depth < MOST_CALLS:
@@ -113,7 +122,8 @@ class Machine:
         """The number that a load finds there, and the word for it; None where it waits."""
         width = width_of(ACCESS_NAMES[command.operator])
         number, word = int.from_bytes(self.space[at:at + width], 'little'), 'read'
-        if any(entry.kind == 'store' or entry.kind == 'ready' and not self.forwards for entry in self.entries[:n]):
+        if any(entry.kind == 'store' or entry.kind == 'ready' and not self.forwards
+               for entry in self.entries[:n]):
             return None
         for entry in self.entries[:n]:
             if entry.kind == 'ready' and entry.at < at + width and at < entry.at + entry.width:
@@ -129,7 +139,8 @@ class Machine:
         if entry.kind not in ('set', 'load', 'store', 'guard'):
             return None
         values = [self.visible(source, n) for source in entry.sources]
-        if None in values or entry.kind == 'load' and self.found(entry.command, self.place(entry.command, values[0]), n) is None:
+        if (None in values or entry.kind == 'load'
+            and self.found(entry.command, self.place(entry.command, values[0]), n) is None):
             return None
         return values
 
@@ -157,7 +168,8 @@ class Machine:
 
     def store(self, entry, n, values):
         entry.width = width_of(ACCESS_NAMES[entry.command.operator])
-        entry.at, entry.value, entry.kind = self.place(entry.command, values[0]), values[1] % 2**(8 * entry.width), 'ready'
+        entry.at, entry.value, entry.kind = self.place(entry.command,
+                                                       values[0]), values[1] % 2**(8 * entry.width), 'ready'
         return self.guarded(f'write {entry.at}', n)
 
     def guard(self, entry, n, values):
@@ -211,7 +223,8 @@ class Machine:
             words += [f'i32 {self.registers.get((0, first + at), 0)}' for at in range(defined.results)]
         lines = [' '.join(words)]
         for number, memory in enumerate(self.image.memories):
-            lines.append(f'memory {number} pages {self.registers[(0, len(self.image.first_globals) + number)]}')
+            lines.append(f'memory {number} pages '
+                         f'{self.registers[(0, len(self.image.first_globals) + number)]}')
             for at in range(self.bases[number], self.bases[number] + memory.reserve * PAGE_BYTES, 16):
                 if self.space[at:at + 16] != self.first[at:at + 16]:
                     lines.append(f'row {number} {at - self.bases[number]} {self.space[at:at + 16].hex()}')
@@ -228,9 +241,11 @@ def spec(data, letters, start):
 def agree(image, function, one, other):
     """Whether two starts are equal but for what is declared secret."""
     secret = image.functions[function].secret_params
-    arguments = [[value for value, is_secret in zip(start.arguments, secret) if not is_secret] for start in (one, other)]
+    arguments = [[value for value, is_secret in zip(start.arguments, secret) if not is_secret]
+                 for start in (one, other)]
     machines = [Machine(image, function, start) for start in (one, other)]
-    spaces = [b''.join(machine.space[base:base + memory.reserve * PAGE_BYTES] for base, memory in zip(machine.bases, image.memories) if not memory.is_secret)
+    spaces = [b''.join(machine.space[base:base + memory.reserve * PAGE_BYTES] for base,
+                       memory in zip(machine.bases, image.memories) if not memory.is_secret)
               for machine in machines]
     return arguments[0] == arguments[1] and spaces[0] == spaces[1]
 
@@ -404,9 +419,11 @@ def print_twins():
     told('twin lowered, AHEAD, public bytes', twin(lowered, AHEAD, *public))
     told('twin hardened, ONE_LOAD, public bytes', twin(hardened, ONE_LOAD, *public))
     told('twin hardened, AHEAD, arguments', twin(hardened, AHEAD, 'arg 0\n', 'arg 1\n'))
-    told('twin hardened, no directive', twin(hardened, '', 'arg 0\n', 'memory 0 9 00\narg 00\nmemory 1 65535 Ff'))
+    told('twin hardened, no directive',
+         twin(hardened, '', 'arg 0\n', 'memory 0 9 00\narg 00\nmemory 1 65535 Ff'))
     for address in (65529, 131072):
-        told(f'twin of eight bytes at {address}', twin(EIGHT, ROLLED, *(f'arg {address}\nmemory 1 0 0{last}\n' for last in (5, 7))))
+        told(f'twin of eight bytes at {address}',
+             twin(EIGHT, ROLLED, *(f'arg {address}\nmemory 1 0 0{last}\n' for last in (5, 7))))
 
 
 def print_forwards():
@@ -415,7 +432,8 @@ def print_forwards():
     told('twin STORED 5 7', twin(word, TRACE, 'arg 5\n', 'arg 7\n'))
     told('forward BYTE_STORED 5 7', twin(byte, TRACE, 'arg 5\n', 'arg 7\n', True))
     told('forward STORED 5 5', twin(word, TRACE, 'arg 5\n', 'arg 5\n', True))
-    told('forward BYTES_OF_BYTES', twin(loads('load8_u', 1, ''), AHEAD, 'arg 0\nmemory 0 0 05\n', 'arg 0\nmemory 0 0 07\n', True))
+    told('forward BYTES_OF_BYTES',
+         twin(loads('load8_u', 1, ''), AHEAD, 'arg 0\nmemory 0 0 05\n', 'arg 0\nmemory 0 0 07\n', True))
 
 
 def machine_of(data, start, room=32):
@@ -450,18 +468,22 @@ def print_loads():
     for store in ('store8', 'store64_8'):
         for load in ('load8_s', 'load8_u', 'load64_8_s', 'load64_8_u'):
             for second in (12, 8):
-                print_load(f'{store}, {load}, second at {second}', two_stores(8, second, (store, 1), (store, 1), (load, 1)), '258')
+                print_load(f'{store}, {load}, second at {second}',
+                           two_stores(8, second, (store, 1), (store, 1), (load, 1)), '258')
 
 
 def print_machines():
     machine = machine_of(two_stores(protected='protected'), 'arg 0\n')
-    print('protected load:', machine.observed('fnffnffnf' 'f258')[0][-1], machine.entries[8].kind, machine.step('8'), machine.step('9'),
-          machine.observed('0134678')[0][-1], machine.entries[8].kind, machine.observed('9rrrrrrrrr')[0][-1], hex(machine.registers[(1, 6)]))
+    print('protected load:', machine.observed('fnffnffnf' 'f258')[0][-1], machine.entries[8].kind,
+          machine.step('8'), machine.step('9'), machine.observed('0134678')[0][-1], machine.entries[8].kind,
+          machine.observed('9rrrrrrrrr')[0][-1], hex(machine.registers[(1, 6)]))
     machine = machine_of(GUESSED, 'arg 0\n')
-    print('wrong guess:', machine.observed('fnfyfnf26')[0][-1], '|', machine.step('3'), machine.front, len(machine.entries),
-          machine.observed('ff014rrrrrr'), machine.registers.get((1, 5), 0), machine.space[8], machine.outcome()[0])
+    print('wrong guess:', machine.observed('fnfyfnf26')[0][-1], '|', machine.step('3'), machine.front,
+          len(machine.entries), machine.observed('ff014rrrrrr'), machine.registers.get((1, 5), 0),
+          machine.space[8], machine.outcome()[0])
     machine = machine_of(stored('store', 4, SMALL), 'arg 5\n', 1)
-    print('one entry:', machine.step('f'), machine.step('f'), machine.observed('rf0rf0rf0rn0rf0rf0rf0rn0rf0rf0rfr')[0][26], machine.outcome()[0])
+    print('one entry:', machine.step('f'), machine.step('f'),
+          machine.observed('rf0rf0rf0rn0rf0rf0rf0rn0rf0rf0rfr')[0][26], machine.outcome()[0])
     for letters in ('ff', 'frf0rf'):
         image = read_image(IMAGES['ADD_ONE_IMAGE'])
         shown, refused = Machine(image, 0, read_start('arg 41\n'), 1).observed(letters)

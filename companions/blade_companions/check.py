@@ -1,12 +1,14 @@
-"""Checks an image and its certificate for scripts: status 0 only if `blade verify` answers all four of its questions by yes. Licence: public domain (CC0).
+"""Checks an image and its certificate for scripts: status 0 only if `blade verify` answers all four of its
+questions by yes. Licence: public domain (CC0).
 
     blade-check IMAGE CERTIFICATE [--blade PROGRAM]
 
-`blade verify` ends with 0 although its last line may be `safe no`, since its status is about the certificate and the protects. This tool prints what
-`verify` printed, and says which answers are no.
+`blade verify` ends with 0 although its last line may be `safe no`, since its status is about the certificate
+and the protects. This tool prints what `verify` printed, and says which answers are no.
 
-It ends with 0 if the certificate, the protects, the labels and both together are right; 1 if an answer is no; 2 for a wrong call; 3 for a file that can't
-be read, or if there is no blade; any other number is that of `blade verify`."""
+It ends with 0 if the certificate, the protects, the labels and both together are right; 1 if an answer is no;
+2 for a wrong call; 3 for a file that can't be read, or if there is no blade; any other number is that of
+`blade verify`."""
 from __future__ import annotations
 
 import subprocess
@@ -43,7 +45,8 @@ def operands(words: Sequence[str]) -> Optional[Tuple[List[str], Optional[str]]]:
 def answers(text: str) -> List[Tuple[str, bool]]:
     """The answers of verify, in order, each with whether it is yes."""
     lines = [line.split(" ") for line in text.splitlines()]
-    if [line[0] for line in lines] != list(ANSWERS) or any(line[1:2] not in (["yes"], ["no"]) for line in lines):
+    if ([line[0] for line in lines] != list(ANSWERS)
+        or any(line[1:2] not in (["yes"], ["no"]) for line in lines)):
         raise Bad("blade verify doesn't answer its four questions")
     return [(line[0], line[1:] == ["yes"]) for line in lines]
 
@@ -67,7 +70,8 @@ def run(words: Sequence[str]) -> int:
         print(__doc__, file=sys.stderr)
         return USAGE
     files, program = given
-    done = subprocess.run([program_of(program), "verify", *files], stdin=subprocess.DEVNULL, stdout=subprocess.PIPE, text=True, check=False)
+    done = subprocess.run([program_of(program), "verify", *files], stdin=subprocess.DEVNULL,
+                          stdout=subprocess.PIPE, text=True, check=False)
     sys.stdout.write(done.stdout)
     sys.stdout.flush()
     if done.returncode not in (YES, NO):

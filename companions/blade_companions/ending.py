@@ -1,4 +1,5 @@
-"""How a companion ends: with a status and at most one line on what it couldn't do. Licence: public domain (CC0)."""
+"""How a companion ends: with a status and at most one line on what it couldn't do. Licence: public domain
+(CC0)."""
 from __future__ import annotations
 
 import os
@@ -14,7 +15,8 @@ DONE, UNREAD, INTERRUPTED = 0, 3, 130
 def why(fault: BaseException) -> str:
     """A fault in words."""
     if isinstance(fault, OSError):
-        return f"{fault.filename}: {fault.strerror}" if fault.filename and fault.strerror else fault.strerror or str(fault)
+        return (f"{fault.filename}: {fault.strerror}" if fault.filename and fault.strerror else fault.strerror
+                or str(fault))
     if isinstance(fault, Bad):
         return str(fault) or "a file ends too early"
     if isinstance(fault, MemoryError):
@@ -54,8 +56,8 @@ def status_of(name: str, work: Callable[[], Optional[int]], unread: int) -> int:
 
 
 def ended(name: str, work: Callable[[], Optional[int]], unread: int = UNREAD, closed: int = DONE) -> int:
-    """The status that work comes to. A file that isn't as it should be is told in one line, with a status of its own; so is a pipe that is closed, which is no
-    fault unless it is said so."""
+    """The status that work comes to. A file that isn't as it should be is told in one line, with a status of
+    its own; so is a pipe that is closed, which is no fault unless it is said so."""
     for stream in (sys.stdout, sys.stderr):
         if hasattr(stream, "reconfigure"):
             stream.reconfigure(errors="backslashreplace")

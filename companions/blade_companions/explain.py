@@ -1,12 +1,12 @@
-"""Tells by lines of C why an image isn't constant-time, and what its protects are for. The program stays the judge: give its report by
---report, and what is told is compared with it. Licence: public domain (CC0).
+"""Tells by lines of C why an image isn't constant-time, and what its protects are for. The program stays the
+judge: give its report by --report, and what is told is compared with it. Licence: public domain (CC0).
 
-    blade-explain IMAGE [MODULE ..] [--certificate FILE] [--report FILE] [--public POS,..] [--causes N] [--ways N] [--page FILE]
-    blade-explain IMAGE MODULE .. --at POS,..     which instructions stand at positions
-    blade-explain MODULE .. --list                all instructions of modules, with positions
+    blade-explain IMAGE [MODULE ..] [--certificate FILE] [--report FILE] [--public POS,..] [--causes N]
+    [--ways N] [--page FILE] blade-explain IMAGE MODULE .. --at POS,..     which instructions stand at
+    positions blade-explain MODULE .. --list                all instructions of modules, with positions
 
-It ends with 0; 1 where the program's report or the image's commands differ from what is told here; 2 for words that it doesn't know;
-3 for files that it can't read."""
+It ends with 0; 1 where the program's report or the image's commands differ from what is told here; 2 for
+words that it doesn't know; 3 for files that it can't read."""
 from __future__ import annotations
 
 import argparse
@@ -23,7 +23,7 @@ from .verdict.flow import Findings, find
 from .verdict.guesses import Guesser, settle
 from .formats.image import Image, image_at
 from .c.lines import Lines
-from .formats.lowering import Linked, lower
+from .formats.lowering import LinkedFunction, lower
 from .formats.certificate import Protect, protects_of, read_certificate
 from .formats.labels import is_labelled
 from .formats.reading import read_file, read_text
@@ -58,49 +58,73 @@ def pair(word: str) -> Tuple[str, str]:
 
 def words_of(words: Sequence[str]) -> argparse.Namespace:
     parser = argparse.ArgumentParser(
-        prog="blade-explain", description="Tells by lines of C why an image isn't constant-time, and what its protects are for.",
-        epilog="It ends with 0; 1 where the program's report or the image's commands differ from what is told here; 2 for words that it doesn't know; "
+        prog="blade-explain",
+        description="Tells by lines of C why an image isn't constant-time, and what its protects are for.",
+        epilog="It ends with 0; 1 where the program's report or the image's commands differ from what is "
+        "told here; 2 for words that it doesn't know; "
                "3 for files that it can't read or write.")
     parser.add_argument("image", metavar="IMAGE")
-    parser.add_argument("modules", metavar="MODULE", nargs="*", help="the modules of the image in harden's order, best linked with -g")
-    parser.add_argument("--certificate", metavar="FILE", help="the image's certificate, for the reasons of protects")
-    parser.add_argument("--report", metavar="FILE", help="what harden or verify printed, to compare with (- is the standard input)")
-    parser.add_argument("--public", metavar="POS,..", type=positions, default=[], help="loads by position, as if what they load were public")
-    parser.add_argument("--source", metavar="FOLDER", action="append", help="lines are shown of sources below it alone, or of the file of that name (.)")
-    parser.add_argument("--source-map", metavar="OLD=NEW", type=pair, action="append", default=[], help="a source's path that begins with OLD begins with NEW here")
-    parser.add_argument("--start", metavar=("EXPORT", "START"), nargs=2, help="tells what one run shows of each cause, in place of a guess")
-    parser.add_argument("--secret", metavar="M:OFFSET:SIZE", action="append", default=[], help="with --start: these bytes change, instead of START's")
-    parser.add_argument("--keep", metavar="M:OFFSET:SIZE", action="append", default=[], help="with --start: these bytes don't")
-    parser.add_argument("--run", metavar="N", type=count, default=RUN, help="with --start: so many commands are followed (1,000,000)")
-    parser.add_argument("--witness", metavar="PREFIX", help="judges what blade-witness wrote again, and marks the end")
-    parser.add_argument("--blade", metavar="PROGRAM", help="the program, for --witness (BLADE, else the one that is built here, else blade)")
-    parser.add_argument("--causes", metavar="N", type=count, default=3, help="so many causes are told in detail (3)")
+    parser.add_argument("modules", metavar="MODULE", nargs="*",
+                        help="the modules of the image in harden's order, best linked with -g")
+    parser.add_argument("--certificate", metavar="FILE",
+                        help="the image's certificate, for the reasons of protects")
+    parser.add_argument("--report", metavar="FILE",
+                        help="what harden or verify printed, to compare with (- is the standard input)")
+    parser.add_argument("--public", metavar="POS,..", type=positions, default=[],
+                        help="loads by position, as if what they load were public")
+    parser.add_argument("--source", metavar="FOLDER", action="append",
+                        help="lines are shown of sources below it alone, or of the file of that name (.)")
+    parser.add_argument("--source-map", metavar="OLD=NEW", type=pair, action="append", default=[],
+                        help="a source's path that begins with OLD begins with NEW here")
+    parser.add_argument("--start", metavar=("EXPORT", "START"), nargs=2,
+                        help="tells what one run shows of each cause, in place of a guess")
+    parser.add_argument("--secret", metavar="M:OFFSET:SIZE", action="append", default=[],
+                        help="with --start: these bytes change, instead of START's")
+    parser.add_argument("--keep", metavar="M:OFFSET:SIZE", action="append", default=[],
+                        help="with --start: these bytes don't")
+    parser.add_argument("--run", metavar="N", type=count, default=RUN,
+                        help="with --start: so many commands are followed (1,000,000)")
+    parser.add_argument("--witness", metavar="PREFIX",
+                        help="judges what blade-witness wrote again, and marks the end")
+    parser.add_argument("--blade", metavar="PROGRAM", help="the program, for --witness (BLADE, else the one "
+                        "that is built here, else blade)")
+    parser.add_argument("--causes", metavar="N", type=count, default=3,
+                        help="so many causes are told in detail (3)")
     parser.add_argument("--ways", metavar="N", type=count, default=1, help="so many ends of each (1)")
     parser.add_argument("--page", metavar="FILE", help="writes a page for the browser, too")
-    parser.add_argument("--lines", action="store_true", help="tells the refused places in the form of compilers, instead of the text")
+    parser.add_argument("--lines", action="store_true",
+                        help="tells the refused places in the form of compilers, instead of the text")
     parser.add_argument("--limit", metavar="N", type=count, default=20, help="so many of them (20)")
-    parser.add_argument("--json", metavar="FILE", help="writes the refused places and the protects for scripts, too")
-    parser.add_argument("--sarif", metavar="FILE", help="writes them as SARIF 2.1.0, for code scanning and editors, too")
+    parser.add_argument("--json", metavar="FILE",
+                        help="writes the refused places and the protects for scripts, too")
+    parser.add_argument("--sarif", metavar="FILE",
+                        help="writes them as SARIF 2.1.0, for code scanning and editors, too")
     parser.add_argument("--root", metavar="FOLDER", default=".", help="SARIF tells files from there on (.)")
-    parser.add_argument("--annotate", metavar="FOLDER", help="writes copies of the modules there that say where the protects stand, for runtimes")
-    parser.add_argument("--at", metavar="POS,..", type=positions, help="tells these positions alone: instruction, place, commands")
-    parser.add_argument("--list", action="store_true", help="lists all instructions with their positions and commands; IMAGE may be a module then")
+    parser.add_argument("--annotate", metavar="FOLDER", help="writes copies of the modules there that say "
+                        "where the protects stand, for runtimes")
+    parser.add_argument("--at", metavar="POS,..", type=positions,
+                        help="tells these positions alone: instruction, place, commands")
+    parser.add_argument("--list", action="store_true", help="lists all instructions with their positions and "
+                        "commands; IMAGE may be a module then")
     return parser.parse_args(list(words))
 
 
-def listing(functions: Sequence[Linked], asked: Optional[Sequence[int]]) -> None:
-    """Instructions with their positions, their places in the file and in the code section, and their commands."""
+def listing(functions: Sequence[LinkedFunction], asked: Optional[Sequence[int]]) -> None:
+    """Instructions with their positions, their places in the file and in the code section, and their
+    commands."""
     wanted = set(asked or ())
     for number, linked in enumerate(functions):
-        rows = [row for row in linked.rows if asked is None or wanted & set(range(row.position, row.position + len(row.kinds)))]
+        rows = [row for row in linked.rows if asked is None
+                or wanted & set(range(row.position, row.position + len(row.kinds)))]
         if rows:
             say(f"function {number} {linked.name}")
         for row in rows:
             first = row.position if row.kinds else "-"
-            say(f"{first:>7} {row.place:#07x} {row.place - linked.module.code:#07x}  {row.text:<20} {' '.join(row.kinds)}".rstrip())
+            say(f"{first:>7} {row.place:#07x} {row.place - linked.module.code:#07x}  {row.text:<20} "
+                f"{' '.join(row.kinds)}".rstrip())
 
 
-def functions_of(image: Image, paths: Sequence[str]) -> Tuple[List[Linked], List[str]]:
+def functions_of(image: Image, paths: Sequence[str]) -> Tuple[List[LinkedFunction], List[str]]:
     """The functions of modules, where they are those of the image, and else why not."""
     if not paths:
         return [], []
@@ -116,7 +140,8 @@ def evidence_of(words: argparse.Namespace, found: Findings, causes: Sequence[Cau
     evidence = Evidence(found, list(causes))
     if words.start:
         export, path = words.start
-        evidence = evidence_of_run(found, causes, secret_of(found.image, export, path, words.secret, words.keep), export, words.run)
+        evidence = evidence_of_run(found, causes, secret_of(found.image, export, path, words.secret,
+                                                            words.keep), export, words.run)
     if words.witness:
         evidence.witness = read_witness(found.image, words.image, words.witness, words.blade)
     evidence.mark_causes()
@@ -145,18 +170,21 @@ def explain(words: argparse.Namespace) -> int:
     image = image_at(words.image)
     functions, differ = functions_of(image, words.modules)
     if differ:
-        differ = [f"{one}: other modules, or other options of wasm-opt? There are no lines now" for one in differ]
+        differ = [f"{one}: other modules, or other options of wasm-opt? There are no lines now"
+                  for one in differ]
     lines = Lines(functions, Sources(words.source or ["."], words.source_map))
     paths = read_certificate(read_file(words.certificate, "certificate")) if words.certificate else None
     protects = protects_of(image, paths)
     found = find(image)
-    differ += compare.report_differs(found, protects, read_text(words.report, "report") if words.report else None)
+    differ += compare.report_differs(found, protects,
+                                     read_text(words.report, "report") if words.report else None)
     if words.public:
         found = find(image, words.public)
     causes = causes_of(found, lines)
     judged(found, lines, causes[: detailed(found, words)], words.ways)
     evidence = evidence_of(words, found, causes)
-    lines.ask([site for protect in protects for site in [protect.position] + ([protect.reason[0][0], protect.reason[1]] if protect.reason else [])])
+    lines.ask([site for protect in protects for site in [protect.position]
+               + ([protect.reason[0][0], protect.reason[1]] if protect.reason else [])])
     told = write_all(words, found, causes, protects, lines, evidence)
     if not words.lines:
         told += text.report(found, causes, protects, lines, words.public, words.causes, words.ways, evidence)
@@ -165,26 +193,30 @@ def explain(words: argparse.Namespace) -> int:
     return DIFFERS if differ else DONE
 
 
-def notes(words: argparse.Namespace, functions: Sequence[Linked], lines: Lines) -> List[str]:
+def notes(words: argparse.Namespace, functions: Sequence[LinkedFunction], lines: Lines) -> List[str]:
     """Why less is told than could be."""
     modules = list({one.module.path: one.module for one in functions}.values())
-    told = [f"warning: {module.path}: what its source declares secret by blade.h isn't in its labels: blade-label puts it there"
+    told = [f"warning: {module.path}: what its source declares secret by blade.h isn't in its labels: "
+            "blade-label puts it there"
             for module in modules if declared(module) and not is_labelled(module)]
     if not words.modules:
-        told.append("note: there are no names and lines without the modules: give them in the order of harden")
+        told.append("note: there are no names and lines without the modules: give them "
+                    "in the order of harden")
     elif modules and not any(module.has_lines for module in modules):
-        told.append(f"note: there are no lines of C in {modules[-1].path}: compile with -g, link without -s, and let wasm-opt keep them (-g)")
+        told.append(f"note: there are no lines of C in {modules[-1].path}: compile with -g, link without -s, "
+                    "and let wasm-opt keep them (-g)")
     elif modules and lines.tool is None:
         told.append("note: there are no lines of C without llvm-symbolizer: apt-get install llvm")
     outside = sorted(lines.sources.outside)
     if outside:
-        told.append(f"note: lines of {outside[0]}{f' and {len(outside) - 1} others' if outside[1:] else ''} aren't shown: no such source is below "
+        told.append(f"note: lines of {outside[0]}{f' and {len(outside) - 1} others' if outside[1:] else ''} "
+                    "aren't shown: no such source is below "
                     f"{', '.join(words.source or ['.'])} (--source FOLDER, --source-map OLD=NEW)")
     return told
 
 
-def write_all(words: argparse.Namespace, found: Findings, causes: List[Cause], protects: Sequence[Protect], lines: Lines,
-              evidence: Optional[Evidence]) -> List[str]:
+def write_all(words: argparse.Namespace, found: Findings, causes: List[Cause], protects: Sequence[Protect],
+              lines: Lines, evidence: Optional[Evidence]) -> List[str]:
     """Writes what words ask for, and gives what is to be said of it."""
     said = annotate(words, found.image, lines) if words.annotate else []
     if words.lines or words.json or words.sarif:
@@ -202,7 +234,8 @@ def tell(words: argparse.Namespace, told: diagnostics.Told, lines: Lines) -> Lis
     if words.json:
         write_file(words.json, sarif.as_json(told, words.image, words.modules).encode())
     if words.sarif:
-        write_file(words.sarif, sarif.as_sarif(told, words.image, words.modules, lines, os.path.abspath(words.root), sarif.version()).encode())
+        write_file(words.sarif, sarif.as_sarif(told, words.image, words.modules, lines,
+                                               os.path.abspath(words.root), sarif.version()).encode())
     return list(diagnostics.as_text(told, words.image, words.limit, lines)) if words.lines else []
 
 
@@ -211,9 +244,12 @@ def annotate(words: argparse.Namespace, image: Image, lines: Lines) -> List[str]
     said: List[str] = []
     os.makedirs(words.annotate, exist_ok=True)
     for path, one in metadata.annotations(image, lines).items():
-        write_file(os.path.join(words.annotate, os.path.basename(path)), metadata.annotated(read_module(path), one))
-        said += [f"differs: the protect at {position} ({instruction}) is of no value of {path}" for position, instruction in one.lost]
-    return said + [f"annotated: {number} {what}" for what, number in sorted(metadata.tally(image, lines).items())]
+        write_file(os.path.join(words.annotate, os.path.basename(path)),
+                   metadata.annotated(read_module(path), one))
+        said += [f"differs: the protect at {position} ({instruction}) is of no value of {path}" for position,
+                 instruction in one.lost]
+    return said + [f"annotated: {number} {what}" for what,
+                   number in sorted(metadata.tally(image, lines).items())]
 
 
 def run(words: argparse.Namespace) -> int:

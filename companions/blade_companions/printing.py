@@ -1,16 +1,17 @@
-"""Words of others as they are printed: names in modules, paths, lines of sources. Nothing in them ends a line, moves the cursor or turns the text round.
-Licence: public domain (CC0)."""
+"""Words of others as they are printed: names in modules, paths, lines of sources. Nothing in them ends a
+line, moves the cursor or turns the text round. Licence: public domain (CC0)."""
 from __future__ import annotations
 
 import sys
-from typing import Any
+from typing import Any, Optional, TextIO
 
 LONG = 200  # so many letters of a name are told
 
 
-def shown(text: str) -> str:
+def printable(text: str) -> str:
     """The text with all letters spelled that don't print: \\n, \\x1b, \\u202e."""
-    return text if text.isprintable() else "".join(letter if letter.isprintable() else spelled(letter) for letter in text)
+    return (text if text.isprintable()
+            else "".join(letter if letter.isprintable() else spelled(letter) for letter in text))
 
 
 def spelled(letter: str) -> str:
@@ -19,20 +20,20 @@ def spelled(letter: str) -> str:
 
 def called(name: str) -> str:
     """A name as it is told: of a very long one the beginning."""
-    return shown(name if len(name) <= LONG else name[:LONG] + "..")
+    return printable(name if len(name) <= LONG else name[:LONG] + "..")
 
 
-def all_shown(value: Any) -> Any:
+def all_printable(value: Any) -> Any:
     """Lists and dictionaries with all their texts as they are shown."""
     if isinstance(value, str):
-        return shown(value)
+        return printable(value)
     if isinstance(value, (list, tuple)):
-        return [all_shown(one) for one in value]
+        return [all_printable(one) for one in value]
     if isinstance(value, dict):
-        return {name: all_shown(one) for name, one in value.items()}
+        return {name: all_printable(one) for name, one in value.items()}
     return value
 
 
-def say(line: str, file=None) -> None:
+def say(line: str, file: Optional[TextIO] = None) -> None:
     """Prints one line, whatever the words in it."""
-    print(shown(line), file=file or sys.stdout)
+    print(printable(line), file=file or sys.stdout)

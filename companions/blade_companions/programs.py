@@ -5,12 +5,15 @@ import os
 import subprocess
 from typing import Optional
 
-TOP = os.path.dirname(os.path.dirname(os.path.dirname(os.path.realpath(__file__))))  # of the release or the clone
+# of the release or the clone
+TOP = os.path.dirname(os.path.dirname(os.path.dirname(os.path.realpath(__file__))))
 
 
 def ready_program() -> Optional[str]:
-    """The program of this release; or of this clone, if it is built or dist/ holds it (tools/building/program). Nothing is built here."""
-    released, script = os.path.join(TOP, "libexec", "blade"), os.path.join(TOP, "tools", "building", "program")
+    """The program of this release; or of this clone, if it is built or dist/ holds it
+    (tools/building/program). Nothing is built here."""
+    released, script = os.path.join(TOP, "libexec",
+                                    "blade"), os.path.join(TOP, "tools", "building", "program")
     if os.access(released, os.X_OK):
         return released
     if not os.access(script, os.X_OK):

@@ -1,15 +1,17 @@
-"""Writes a trace of a run for `blade spec` and `blade twin`: in the order of the program, but for each load and store, which is executed ahead of
-its bounds test. Or counts what a run executes. It runs the image apart from the program. Licence: public domain (CC0).
+"""Writes a trace of a run for `blade spec` and `blade twin`: in the order of the program, but for each load
+and store, which is executed ahead of its bounds test. Or counts what a run executes. It runs the image apart
+from the program. Licence: public domain (CC0).
 
-    blade-trace IMAGE EXPORT START [--most N]             the directives, of at most so many commands (300,000)
-    blade-trace IMAGE EXPORT START --count [--most N]     how many commands and protects are executed, of at most so many commands (30,000,000)
+    blade-trace IMAGE EXPORT START [--most N]             the directives, of at most so many commands
+    (300,000) blade-trace IMAGE EXPORT START --count [--most N]     how many commands and protects are
+    executed, of at most so many commands (30,000,000)
 
 `twin` on such a trace compares two secrets along this one run. For all runs there is `constant-time yes`.
 
-It ends with 0; 1 where what is counted hadn't ended after so many commands, which is said as `spent N`; 2 for words that it doesn't know; 3 for files
-that it can't read."""
+It ends with 0; 1 where what is counted hadn't ended after so many commands, which is said as `spent N`; 2 for
+words that it doesn't know; 3 for files that it can't read."""
 import sys
-from typing import Sequence
+from typing import List, Optional, Sequence, Tuple
 
 from .ending import ended
 from .formats.image import image_at
@@ -22,7 +24,7 @@ LINES = 1_000_000
 DONE, SPENT, USAGE = 0, 1, 2
 
 
-def asked(words):
+def asked(words: Sequence[str]) -> Optional[Tuple[List[str], bool, int]]:
     """The three words, whether to count, and the most commands; None where the words aren't of this kind."""
     words, counting, most = list(words), "--count" in words, None
     if counting:
@@ -31,12 +33,13 @@ def asked(words):
         at = words.index("--most")
         most = words[at + 1]
         del words[at : at + 2]
-    if len(words) != 3 or any(word.startswith("--") for word in words) or most is not None and not (most.isascii() and most.isdigit() and len(most) < 16):
+    if (len(words) != 3 or any(word.startswith("--") for word in words) or most is not None
+        and not (most.isascii() and most.isdigit() and len(most) < 16)):
         return None
     return words, counting, int(most) if most is not None else COUNTED if counting else TRACED
 
 
-def run(words):
+def run(words: Sequence[str]) -> int:
     if words in (["--help"], ["-h"]):
         print(__doc__)
         return DONE
@@ -48,7 +51,8 @@ def run(words):
     image = image_at(path)
     if export not in image.entries:
         raise Bad(f"{export} isn't exported")
-    begun = Run(image, image.entries[export], read_start(read_file(start, "start").decode("utf-8", "replace")))
+    begun = Run(image, image.entries[export],
+                read_start(read_file(start, "start").decode("utf-8", "replace")))
     if counting:
         for name, number in sorted(counts(begun, most).items()):
             say(f"{name} {number}")

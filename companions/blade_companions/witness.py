@@ -1,11 +1,14 @@
-"""Looks for two starts that agree in public and a list of directives that tells them apart, and has the program judge it: `blade twin`. What is
-witnessed is a leak; nothing found says nothing. Licence: public domain (CC0).
+"""Looks for two starts that agree in public and a list of directives that tells them apart, and has the
+program judge it: `blade twin`. What is witnessed is a leak; nothing found says nothing. Licence: public
+domain (CC0).
 
-    blade-witness IMAGE EXPORT START [MODULE ..] [--secret M:OFFSET:SIZE] [--keep M:OFFSET:SIZE] [--public] [--forward] [--more N] [--run N]
+    blade-witness IMAGE EXPORT START [MODULE ..] [--secret M:OFFSET:SIZE] [--keep M:OFFSET:SIZE] [--public]
+    [--forward] [--more N] [--run N]
                   [--out PREFIX] [--seconds N] [--seed N] [--blade PROGRAM]
 
-Status: 0 nothing found; 1 a leak is witnessed; 2 the words aren't right; 3 something can't be read, or the program doesn't run;
-4 `run` alone shows it: a secret in a public memory or in a demanded result, or another way."""
+Status: 0 nothing found; 1 a leak is witnessed; 2 the words aren't right; 3 something can't be read, or the
+program doesn't run; 4 `run` alone shows it: a secret in a public memory or in a demanded result, or another
+way."""
 from __future__ import annotations
 
 import argparse
@@ -42,24 +45,37 @@ class Unsearchable(Bad):
 
 
 def words_of(words: Sequence[str]) -> argparse.Namespace:
-    parser = argparse.ArgumentParser(prog="blade-witness", description="Looks for two starts that agree in public and are told apart.")
+    parser = argparse.ArgumentParser(prog="blade-witness", description="Looks for two starts that agree in "
+                                     "public and are told apart.")
     parser.add_argument("image", metavar="IMAGE")
     parser.add_argument("export", metavar="EXPORT")
-    parser.add_argument("start", metavar="START", help="its public inputs stay; secret parameters and what it gives of secret memories change")
-    parser.add_argument("modules", metavar="MODULE", nargs="*", help="the modules of the image in harden's order, for lines of C")
-    parser.add_argument("--secret", metavar="M:OFFSET:SIZE", action="append", default=[], help="these bytes change, of secret memories, instead of START's")
-    parser.add_argument("--keep", metavar="M:OFFSET:SIZE", action="append", default=[], help="these bytes stay: public numbers in a secret memory")
-    parser.add_argument("--public", action="store_true", help="wrong guesses are tried with other public arguments, too, the same in both starts")
+    parser.add_argument("start", metavar="START", help="its public inputs stay; secret parameters and what "
+                        "it gives of secret memories change")
+    parser.add_argument("modules", metavar="MODULE", nargs="*",
+                        help="the modules of the image in harden's order, for lines of C")
+    parser.add_argument("--secret", metavar="M:OFFSET:SIZE", action="append", default=[],
+                        help="these bytes change, of secret memories, instead of START's")
+    parser.add_argument("--keep", metavar="M:OFFSET:SIZE", action="append", default=[],
+                        help="these bytes stay: public numbers in a secret memory")
+    parser.add_argument("--public", action="store_true", help="wrong guesses are tried with other public "
+                        "arguments, too, the same in both starts")
     parser.add_argument("--forward", action="store_true", help="on the machine that forwards stores")
-    parser.add_argument("--more", metavar="N", type=count, default=0, help="where a leak is found, so many bytes are changed one by one, for other places")
-    parser.add_argument("--run", metavar="N", type=count, default=RUN, help="so many commands of START's run are followed first, to aim (150,000)")
-    parser.add_argument("--source", metavar="FOLDER", action="append", help="lines are shown of sources below it alone, or of the file of that name (.)")
+    parser.add_argument("--more", metavar="N", type=count, default=0,
+                        help="where a leak is found, so many bytes are changed one by one, for other places")
+    parser.add_argument("--run", metavar="N", type=count, default=RUN,
+                        help="so many commands of START's run are followed first, to aim (150,000)")
+    parser.add_argument("--source", metavar="FOLDER", action="append",
+                        help="lines are shown of sources below it alone, or of the file of that name (.)")
     parser.add_argument("--source-map", metavar="OLD=NEW", type=pair, action="append", default=[],
                         help="a source's path that begins with OLD begins with NEW here")
-    parser.add_argument("--out", metavar="PREFIX", default="witness", help="writes PREFIX.trace, PREFIX.a.start, PREFIX.b.start and PREFIX.again (witness)")
-    parser.add_argument("--seconds", metavar="N", type=float, default=60.0, help="ends the search, without another answer (60)")
-    parser.add_argument("--seed", metavar="N", type=count, default=1, help="the same one, the same answer (1)")
-    parser.add_argument("--blade", metavar="PROGRAM", help="the program (BLADE, else the one that is built here, else blade)")
+    parser.add_argument("--out", metavar="PREFIX", default="witness",
+                        help="writes PREFIX.trace, PREFIX.a.start, PREFIX.b.start and PREFIX.again (witness)")
+    parser.add_argument("--seconds", metavar="N", type=float, default=60.0,
+                        help="ends the search, without another answer (60)")
+    parser.add_argument("--seed", metavar="N", type=count, default=1,
+                        help="the same one, the same answer (1)")
+    parser.add_argument("--blade", metavar="PROGRAM",
+                        help="the program (BLADE, else the one that is built here, else blade)")
     return parser.parse_args(list(words))
 
 
@@ -73,15 +89,19 @@ def sought_by(words: argparse.Namespace, folder: str) -> Tuple[Sought, Evidence]
     image = read_image(read_file(words.image, "image"))
     secret = secret_of(image, words.export, words.start, words.secret, words.keep)
     if not secret.first:
-        raise Unsearchable("nothing may change: no parameter of this function is secret, and START gives no bytes of a secret memory "
+        raise Unsearchable("nothing may change: no parameter of this function is secret, and START gives no "
+                           "bytes of a secret memory "
                            "(or --secret M:OFFSET:SIZE)")
-    program = Program(program_of(words.blade), words.image, words.export, "forward" if words.forward else "twin", folder)
+    program = Program(program_of(words.blade), words.image, words.export,
+                      "forward" if words.forward else "twin", folder)
     findings = find(image)
     evidence = evidence_of_run(findings, (), secret, words.export, words.run)
-    return Sought(program, image, function_of(image, words.export), secret, findings, evidence.meeting, words.seed, words.public), evidence
+    return Sought(program, image, function_of(image, words.export), secret, findings, evidence.meeting,
+                  words.seed, words.public), evidence
 
 
-def write_starts(sought: Sought, prefix: str, first: bytes, second: bytes, arguments: Optional[Sequence[int]] = None) -> None:
+def write_starts(sought: Sought, prefix: str, first: bytes, second: bytes,
+                 arguments: Optional[Sequence[int]] = None) -> None:
     """The two start files."""
     write_file(f"{prefix}.a.start", sought.text(first, arguments).encode())
     write_file(f"{prefix}.b.start", sought.text(second, arguments).encode())
@@ -92,7 +112,8 @@ def position_of(sought: Sought, trace: Sequence[str], common: Sequence[str]) -> 
 
 
 def other_places(sought: Sought, most: int) -> Dict[int, Tuple[str, int]]:
-    """Other places where single changed bytes are told apart on the trace of the start's own secret: what was changed, and the directive."""
+    """Other places where single changed bytes are told apart on the trace of the start's own secret: what was
+    changed, and the directive."""
     first, chance = sought.secret.first, random.Random(sought.seed)
     told: Dict[int, Tuple[str, int]] = {}
     tries: List[int] = []
@@ -118,7 +139,8 @@ def more_text(sought: Sought, found: Found, most: int, lines: Lines) -> Iterator
     told = other_places(sought, most)
     told.pop(position_of(sought, found.trace, found.difference.common), None)
     for at, (name, directive) in told.items():
-        yield f"  also by {name}: {kind_of(sought.image, at)}: {telling.where(lines, at)}, directive {directive}"
+        yield (f"  also by {name}: {kind_of(sought.image, at)}: {telling.where(lines, at)}, "
+               f"directive {directive}")
 
 
 def tell_found(sought: Sought, searched: Searched, words: argparse.Namespace, lines: Lines) -> int:
@@ -142,7 +164,8 @@ def tell_shown(sought: Sought, searched: Searched, words: argparse.Namespace) ->
     again = telling.runs_again(words.image, words.export, words.out, tried.shown.startswith("position"))
     write_file(f"{words.out}.again", f"{again}\n".encode())
     say(f"  but whole runs of two secrets differ, though no observer was shown to see it: {tried.shown}")
-    say_all(f"  secret changed: {change}" for change in telling.what_differs(sought.secret, attempt.first, tried.other))
+    say_all(f"  secret changed: {change}"
+            for change in telling.what_differs(sought.secret, attempt.first, tried.other))
     say(f"again: {again}")
     return SHOWN
 

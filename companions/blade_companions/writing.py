@@ -1,4 +1,5 @@
-"""Files that are written whole: beside what stands there, and renamed over it. Licence: public domain (CC0)."""
+"""Files that are written whole: beside what stands there, and renamed over it. Licence: public domain
+(CC0)."""
 from __future__ import annotations
 
 import os
@@ -25,7 +26,8 @@ def rights_of_new() -> int:
 
 
 def write_file(path: str, data: bytes) -> None:
-    """Replaces what a name leads to by these bytes, or leaves it as it was; pipes and devices get them as they come."""
+    """Replaces what a name leads to by these bytes, or leaves it as it was; pipes and devices get them as
+    they come."""
     mode = mode_of(path)
     if path.startswith(IN_PLACE) or mode is not None and not stat.S_ISREG(mode):
         with open(path, "wb") as file:

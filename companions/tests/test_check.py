@@ -21,8 +21,10 @@ class Statuses(unittest.TestCase):
             with open(program, "w", encoding="ascii") as file:
                 file.write(f"#!/bin/sh\nprintf '%s' '{text}'\nexit {status}\n")
             os.chmod(program, 0o755)
-            command = [sys.executable, "-B", os.path.join(COMPANIONS, "blade-check"), *words, "--blade", program]
-            done = subprocess.run(command, stdout=subprocess.PIPE, stderr=subprocess.PIPE, universal_newlines=True, check=False)
+            command = [sys.executable, "-B", os.path.join(COMPANIONS, "blade-check"), *words, "--blade",
+                       program]
+            done = subprocess.run(command, stdout=subprocess.PIPE, stderr=subprocess.PIPE,
+                                  universal_newlines=True, check=False)
             return done.returncode, done.stdout, done.stderr
 
     def test_four_times_yes_is_0(self) -> None:
@@ -42,7 +44,8 @@ class Statuses(unittest.TestCase):
         self.assertEqual(self.checked("image: not an image\n", 12)[0], 12)
 
     def test_an_answer_that_is_cut_off_is_no_yes(self) -> None:
-        for text in ("", YES[: YES.index("safe")], YES + "more\n", YES.replace("safe yes", "safe yes indeed"), YES.replace("stable yes", "stable maybe")):
+        for text in ("", YES[: YES.index("safe")], YES + "more\n", YES.replace("safe yes", "safe yes indeed"),
+                     YES.replace("stable yes", "stable maybe")):
             self.assertNotEqual(self.checked(text, 0)[0], 0, text)
 
     def test_a_program_that_is_killed_is_no_yes(self) -> None:

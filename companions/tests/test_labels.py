@@ -1,4 +1,5 @@
-"""Tests of blade-label: sections written by hand, words and modules that are refused. Licence: public domain (CC0)."""
+"""Tests of blade-label: sections written by hand, words and modules that are refused. Licence: public domain
+(CC0)."""
 from __future__ import annotations
 
 import unittest
@@ -7,8 +8,8 @@ from blade_companions.formats.labels import entries_of, labelled, section_of, wi
 from blade_companions.formats.reading import Bad
 from blade_companions.formats.module import MAGIC, Module, module_of
 
-# A module with one imported function (f 0: no parameter), a function `add` of two i32 to one (1), a memory (0) and globals 0 and 1;
-# the name section calls global 1 `key`.
+# A module with one imported function (f 0: no parameter), a function `add` of two i32 to one (1), a memory
+# (0) and globals 0 and 1; the name section calls global 1 `key`.
 PARTS = [
     "01 0A 02 60 00 00 60 02 7F 7F 01 7F", "02 07 01 01 61 01 62 00 00", "03 02 01 01", "05 03 01 00 01",
     "06 0B 02 7F 01 41 00 0B 7F 01 41 00 0B", "07 07 01 03 61 64 64 00 01", "0A 06 01 04 00 20 00 0B",
@@ -28,10 +29,10 @@ CASES = [
 ]
 # Words that are refused.
 REFUSED = [
-    "secret-param add", "secret-memory -1", "secret-memory 1", "secret-local 0", "0", "secret-memory 0 0", "secret-param add 2", "secret-param 2 0",
-    "secret-param 0 0", "secret-param sub 0", "public-result add 1", "secret-global 2", "secret-global lock", "secret-memory 0 secret-memory 0",
-    "secret-global 1 public-global key",
-]
+    "secret-param add", "secret-memory -1", "secret-memory 1", "secret-local 0", "0", "secret-memory 0 0",
+    "secret-param add 2", "secret-param 2 0", "secret-param 0 0", "secret-param sub 0", "public-result add 1",
+    "secret-global 2", "secret-global lock", "secret-memory 0 secret-memory 0",
+    "secret-global 1 public-global key"]
 UNFIT = [b"", b"\0asm\2\0\0\0", MAGIC + b"\0\5\1", MAGIC + b"\1\x80", MODULE + section_of([])]
 
 

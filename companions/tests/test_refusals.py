@@ -7,10 +7,12 @@ from blade_companions.c.refusals import about_symbols, refusal
 from blade_companions.formats.encoding import section, sized, vector
 from blade_companions.formats.module import MAGIC, Module, module_of
 
-# Function types () -> () and (f32) -> (); a function 0 imported as a.b; then one function of each kind of body.
+# Function types () -> () and (f32) -> (); a function 0 imported as a.b; then one function of each kind of
+# body.
 TYPES, IMPORTS = "01 08 02 60 00 00 60 01 7D 00", "02 07 01 01 61 01 62 00 00"
 START = "08 01 01"
-# The body of function 1, and what the program says; the function, the place in the body, and a word of what is told.
+# The body of function 1, and what the program says; the function, the place in the body, and a word of what
+# is told.
 CASES = [
     ("00 43 00 00 00 00 1A 0B", "unsupported: m", 1, 1, "[blade-float]"),
     ("01 01 7C 01 0B", "unsupported: m", 1, 0, "[blade-float]"),
@@ -22,12 +24,14 @@ CASES = [
     ("00 0B", "link: m import 0 mismatch", -1, -1, "which has another type there"),
     ("00 0B", "limit: reserve 1025", -1, -1, "--memory"),
 ]
-SYMBOLS = [("__multi3", "__int128"), ("__udivti3", "__int128"), ("__addsf3", "floats"), ("malloc", "wasi-libc")]
+SYMBOLS = [("__multi3", "__int128"), ("__udivti3", "__int128"), ("__addsf3", "floats"),
+           ("malloc", "wasi-libc")]
 
 
 def module(body: str, start: str = "") -> Module:
     code = sized(bytes.fromhex(body))
-    return module_of(MAGIC + b"".join(map(bytes.fromhex, [TYPES, IMPORTS, "03 02 01 00", start])) + section(10, vector([code])), "m")
+    return module_of(MAGIC + b"".join(map(bytes.fromhex, [TYPES, IMPORTS, "03 02 01 00", start]))
+                     + section(10, vector([code])), "m")
 
 
 class Refusals(unittest.TestCase):

@@ -1,5 +1,6 @@
-"""Tests of traces that take wrong guesses on purpose: the oracle's buffer machine takes each directive, rolls back behind each wrong path, reads where
-the run says that it reads, and ends as the run in order does. Licence: public domain (CC0)."""
+"""Tests of traces that take wrong guesses on purpose: the oracle's buffer machine takes each directive, rolls
+back behind each wrong path, reads where the run says that it reads, and ends as the run in order does.
+Licence: public domain (CC0)."""
 from __future__ import annotations
 
 import os
@@ -12,24 +13,28 @@ from blade_companions.formats.image import Image, read_image
 from blade_companions.formats.running import Run, Start, read_start
 from blade_companions.witnesses.steering import Choices, Recorded, WrongGuesses, distances
 
-ORACLES = os.path.join(os.path.dirname(os.path.dirname(os.path.dirname(os.path.realpath(__file__)))), "oracles")
+ORACLES = os.path.join(os.path.dirname(os.path.dirname(os.path.dirname(os.path.realpath(__file__)))),
+                       "oracles")
 STEPS = 10_000
 Machine = Any  # that of oracles/traces.py
 # Programs of the oracles, with start files by which their runs return.
-STARTS = {"LOADS_IMAGE": "arg 0\n", "SUM_IMAGE": "arg 0\narg 3\n", "NESTED_IMAGE": "arg 1\n", "LOOP_IMAGE": "arg 3\n", "SWAPPING_IMAGE": "arg 5\narg 7\narg 2\n",
-          "INDIRECT_IMAGE": "arg 2\n", "LOOP_READS_IMAGE": "arg 8\n", "GROW_AND_STORE_IMAGE": "arg 1\n", "GUESSED": "arg 0\n"}
+STARTS = {"LOADS_IMAGE": "arg 0\n", "SUM_IMAGE": "arg 0\narg 3\n", "NESTED_IMAGE": "arg 1\n",
+          "LOOP_IMAGE": "arg 3\n", "SWAPPING_IMAGE": "arg 5\narg 7\narg 2\n", "INDIRECT_IMAGE": "arg 2\n",
+          "LOOP_READS_IMAGE": "arg 8\n", "GROW_AND_STORE_IMAGE": "arg 1\n", "GUESSED": "arg 0\n"}
 
 
 def directed(machine: Machine, line: str) -> str:
     """What a directive shows on the oracle's machine; an error where it isn't enabled."""
     word, _, number = line.partition(" ")
-    shown = machine.retire() if word == "retire" else machine.execute(int(number)) if word == "exec" else machine.fetch(bool(int(number)) if number else None)
+    shown = (machine.retire() if word == "retire" else machine.execute(int(number)) if word == "exec"
+             else machine.fetch(bool(int(number)) if number else None))
     if shown is None:
         raise AssertionError(f"{line} isn't enabled")
     return shown
 
 
-def steered(image: Image, function: int, start: str, number: int, forwards: bool) -> Tuple[Recorded, WrongGuesses]:
+def steered(image: Image, function: int, start: str, number: int,
+            forwards: bool) -> Tuple[Recorded, WrongGuesses]:
     """A run and its trace with wrong guesses; every second one goes towards the last command."""
     goals = distances(image, [len(image.commands) - 1]) if number % 2 else {}
     run = Recorded(image, function, read_start(start))
@@ -86,9 +91,12 @@ class Steering(unittest.TestCase):
                     with self.subTest(name, number=number, forwards=forwards):
                         paths[name] = paths.get(name, 0) + self.follow(name, number, forwards)
         # Of these three each wrong way is a trap at once.
-        self.assertEqual({name for name, count in paths.items() if not count}, {"LOADS_IMAGE", "LOOP_READS_IMAGE", "INDIRECT_IMAGE"})
+        self.assertEqual({name for name, count in paths.items() if not count},
+                         {"LOADS_IMAGE", "LOOP_READS_IMAGE", "INDIRECT_IMAGE"})
 
     def test_distances_of_a_loop(self) -> None:
-        """LOOP_IMAGE: 7 jump 8; 8 and 9 are set; 10 jump 11; 11 to 14 are set; 15 tests to 16 or 18; 16 is set; 17 jump 10; .. 21 ret."""
+        """LOOP_IMAGE: 7 jump 8; 8 and 9 are set; 10 jump 11; 11 to 14 are set; 15 tests to 16 or 18; 16 is
+        set; 17 jump 10; .. 21 ret."""
         away = distances(read_image(self.images["LOOP_IMAGE"]), [21])
-        self.assertEqual([away.get(at) for at in range(7, 22)], [12, 11, 10, 9, 8, 7, 6, 5, 4, 11, 10, 3, 2, 1, 0])
+        self.assertEqual([away.get(at) for at in range(7, 22)],
+                         [12, 11, 10, 9, 8, 7, 6, 5, 4, 11, 10, 3, 2, 1, 0])

@@ -1,5 +1,5 @@
-"""Tests of blade-witness without the program: what changes between two runs, start files, and which command a directive is about.
-Licence: public domain (CC0)."""
+"""Tests of blade-witness without the program: what changes between two runs, start files, and which command a
+directive is about. Licence: public domain (CC0)."""
 from __future__ import annotations
 
 import unittest
@@ -12,11 +12,14 @@ from blade_companions.witnesses.pairs import Range, Secret, joined, ranges_of, w
 
 
 def tiny() -> Image:
-    """A function of a public and a secret parameter, which tests the public one and, where it isn't 0, the secret one; a secret memory."""
+    """A function of a public and a secret parameter, which tests the public one and, where it isn't 0, the
+    secret one; a secret memory."""
     p, q = Operand(True, 1), Operand(True, 2)
-    commands = [Command("Trap")] * 7 + [Command("Test", (p,), (), (1,), targets=(8, 9)), Command("Test", (q,), (), (2,), targets=(9, 9)), Command("Ret")]
+    commands = [Command("Trap")] * 7 + [Command("Test", (p,), (), (1,), targets=(8, 9)),
+                                        Command("Test", (q,), (), (2,), targets=(9, 9)), Command("Ret")]
     function = Function([False, True], 0, 2, 3, 1, 7, [0x7F, 0x7E])
-    return Image([], [], [Memory(1, 1, True, [(0, bytes(range(16)))])], [function], {0: "m/f"}, {"m/f": 0}, [], {}, commands)
+    return Image([], [], [Memory(1, 1, True, [(0, bytes(range(16)))])], [function], {0: "m/f"}, {"m/f": 0},
+                 [], {}, commands)
 
 
 class Pairs(unittest.TestCase):
@@ -29,15 +32,19 @@ class Pairs(unittest.TestCase):
         self.assertEqual(list(joined(3, {7, 9, 8, 1})), [Range(3, 1, 1), Range(3, 7, 3)])
 
     def test_what_changes(self) -> None:
-        """The secret parameter, of 8 bytes; what the lines give, those that meet as one; without what is kept."""
+        """The secret parameter, of 8 bytes; what the lines give, those that meet as one; without what is
+        kept."""
         self.assertEqual(self.ranges, [Range(None, 1, 8), Range(0, 4, 2), Range(0, 40, 1)])
-        self.assertEqual(what_changes(self.image, 0, self.start, [Range(0, 0, 2)], []), [Range(None, 1, 8), Range(0, 0, 2)])
+        self.assertEqual(what_changes(self.image, 0, self.start, [Range(0, 0, 2)], []),
+                         [Range(None, 1, 8), Range(0, 0, 2)])
 
     def test_start_files_of_secrets(self) -> None:
         secret = Secret(self.image, self.start, self.ranges)
         self.assertEqual(secret.first, (1 << 40).to_bytes(8, "little") + b"\x10\x22\x33")
-        self.assertEqual(secret.text(bytes(8) + b"\xaa\xbb\xcc"), "arg 5\narg 0\nmemory 0 5 2223\nmemory 0 4 aabb\nmemory 0 40 cc\n")
-        self.assertEqual([secret.name(place) for place in (7, 8, 10)], ["parameter 1", "memory 0, byte 4", "memory 0, byte 40"])
+        self.assertEqual(secret.text(bytes(8) + b"\xaa\xbb\xcc"),
+                         "arg 5\narg 0\nmemory 0 5 2223\nmemory 0 4 aabb\nmemory 0 40 cc\n")
+        self.assertEqual([secret.name(place) for place in (7, 8, 10)],
+                         ["parameter 1", "memory 0, byte 4", "memory 0, byte 40"])
 
     def test_words_that_are_no_ranges(self) -> None:
         for word in ("0:1", "0:1:0", "0:-1:2", "x:1:2"):

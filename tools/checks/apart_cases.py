@@ -1,9 +1,11 @@
-"""Libraries, stubs and clients for tools/checks/apart, as texts of WebAssembly, with what is worked out by hand of them. Licence: public domain (CC0)."""
+"""Libraries, stubs and clients for tools/checks/apart, as texts of WebAssembly, with what is worked out by
+hand of them. Licence: public domain (CC0)."""
 from typing import Dict, List, NamedTuple, Sequence, Tuple
 
 
 class Call(NamedTuple):
-    """A function that is called: its arguments, bytes over memories of the linked modules, and the first line of its outcome."""
+    """A function that is called: its arguments, bytes over memories of the linked modules, and the first line
+    of its outcome."""
 
     export: str
     arguments: Sequence[int]
@@ -12,7 +14,8 @@ class Call(NamedTuple):
 
 
 class Case(NamedTuple):
-    """Modules by name, the stub where it isn't blade-stub's, and calls. Of a witness the joined image's line, and what blade-stub tells."""
+    """Modules by name, the stub where it isn't blade-stub's, and calls. Of a witness the joined image's line,
+    and what blade-stub tells."""
 
     name: str
     interface: str
@@ -25,7 +28,8 @@ class Case(NamedTuple):
 
 
 FG = "function - s lib/f\nfunction - s lib/g\n"
-ELEVEN = '(module (func (export "f") (result i32) i32.const 11) (func (export "g") (result i32) i32.const 22))'
+ELEVEN = ('(module (func (export "f") (result i32) i32.const 11) (func (export "g") '
+          '(result i32) i32.const 22))')
 IMPORTS_F = '(import "lib" "f" (func $f (result i32)))'
 BOTH = f"""(module {IMPORTS_F} (import "lib" "g" (func $g (result i32)))
   (func (export "both") (result i32) call $f i32.const 100 i32.mul call $g i32.add))"""
@@ -34,8 +38,10 @@ HAND_ON = f'(module {IMPORTS_F} (export "again" (func $f)) (func (export "one") 
 
 # Where a client or its stub doesn't keep what is asked, and the answers differ.
 WITNESSES: List[Case] = [
-    Case("two names of one function of the stub", FG, {"lib": ELEVEN}, {"client": BOTH}, [Call("client/both", [], "returned i32 1122")],
-         {"lib": '(module (func $s (result i32) unreachable) (export "f" (func $s)) (export "g" (func $s)))'}, "returned i32 1111",
+    Case("two names of one function of the stub", FG, {"lib": ELEVEN}, {"client": BOTH},
+         [Call("client/both", [], "returned i32 1122")],
+         {"lib": '(module (func $s (result i32) unreachable) (export "f" (func $s)) (export "g" (func $s)))'},
+         "returned i32 1111",
          ["lib/f and lib/g are one function of the stub, and two of the library: calls of both go to lib/f"]),
     Case("a memory from the stub", "function - - lib/set\n",
          {"lib": '(module (memory (export "m") 1) (func (export "set") i32.const 8 i32.const 77 i32.store))'},
@@ -43,19 +49,28 @@ WITNESSES: List[Case] = [
            (func (export "get") (result i32) call $set i32.const 8 i32.load))"""},
          [Call("client/get", [], "returned i32 77")],
          {"lib": '(module (memory (export "m") 1) (func (export "set") unreachable))'}, "returned i32 0",
-         ["CLIENT/client.wasm: imports memory lib/m of the stub: it stays the stub's, apart from what the library has"]),
-    Case("a function of the stub that is handed on", "function - s lib/f\n", {"lib": ELEVEN}, {"client": HAND_ON},
+         ["CLIENT/client.wasm: imports memory lib/m of the stub: it stays the stub's, apart from "
+          "what the library has"]),
+    Case("a function of the stub that is handed on", "function - s lib/f\n", {"lib": ELEVEN},
+         {"client": HAND_ON},
          [Call("client/again", [], "returned i32 11")], {}, "trapped unreachable",
-         ["CLIENT/client.wasm: exports client/again, a function of the stub: under that name the stub's body runs"]),
+         ["CLIENT/client.wasm: exports client/again, a function of the stub: under that name "
+          "the stub's body runs"]),
     Case("a function that neither the interface nor the library has", "function - s lib/f\n", {"lib": ELEVEN},
-         {"client": '(module (import "lib" "extra" (func $extra (result i32))) (func (export "one") (result i32) call $extra))'},
+         {"client": '(module (import "lib" "extra" (func $extra (result i32))) (func (export "one") '
+          '(result i32) call $extra))'},
          [Call("client/one", [], "link: client import 0 unknown")],
          {"lib": f'(module {F_STUB} (func (export "extra") (result i32) i32.const 5))'}, "returned i32 5",
-         ["the stub exports lib/extra, which neither the interface nor the library has: who calls it runs the stub's body",
-          "CLIENT/client.wasm: imports function lib/extra, which isn't in the interface: the stub's body runs"]),
-    Case("an export of the stub that the interface doesn't have", "function - s lib/f\n", {"lib": ELEVEN}, {"client": HAND_ON.replace('(export "again" (func $f))', "")},
-         [Call("lib/z", [], "start: export")], {"lib": f'(module {F_STUB} (func (export "z") (result i32) i32.const 5))'}, "returned i32 5",
-         ["the stub exports lib/z, which neither the interface nor the library has: who calls it runs the stub's body"]),
+         ["the stub exports lib/extra, which neither the interface nor the library has: who calls "
+          "it runs the stub's body",
+          "CLIENT/client.wasm: imports function lib/extra, which isn't in the interface: "
+          "the stub's body runs"]),
+    Case("an export of the stub that the interface doesn't have", "function - s lib/f\n", {"lib": ELEVEN},
+         {"client": HAND_ON.replace('(export "again" (func $f))', "")},
+         [Call("lib/z", [], "start: export")],
+         {"lib": f'(module {F_STUB} (func (export "z") (result i32) i32.const 5))'}, "returned i32 5",
+         ["the stub exports lib/z, which neither the interface nor the library has: who calls it "
+          "runs the stub's body"]),
 ]
 
 TABLES = """(module
@@ -87,7 +102,8 @@ RESULTS = """(module
 THREE = """(module (func (export "three") (param i32 i64) (result i64 i32 i64)
   local.get 1 i64.const 1 i64.add local.get 0 i32.const 2 i32.add local.get 1 local.get 0 i64.extend_i32_u i64.mul))"""
 
-# A library of two modules, each with a memory; a stub with a memory and a global of its own; two clients, the second over the first's memory.
+# A library of two modules, each with a memory; a stub with a memory and a global of its own; two clients, the
+# second over the first's memory.
 STATES = {
     "low": """(module (memory (export "m") 1 3) (data (i32.const 0) "\\01\\02\\03\\04") (global $count (mut i32) (i32.const 0))
       (func (export "store") (param i32 i32) local.get 0 local.get 1 i32.store global.get $count i32.const 1 i32.add global.set $count)
@@ -105,7 +121,8 @@ STATES_STUBS = {
     "high": """(module (func (export "copy") (param i32 i32) unreachable) (func (export "put") (param i32 i32) i32.const 1 drop unreachable)
       (func (export "load") (param i32) (result i32) i32.const 7))""",
 }
-STATES_IFACE = "function ss - high/copy\nfunction - t low/count\nfunction st - low/store\nfunction st - high/put\nfunction s t high/load\n"
+STATES_IFACE = ("function ss - high/copy\nfunction - t low/count\nfunction st - low/store\nfunction st - "
+                "high/put\nfunction s t high/load\n")
 STATES_CLIENTS = {
     "first": """(module (import "high" "copy" (func $copy (param i32 i32))) (import "low" "count" (func $count (result i32)))
       (memory (export "m") 1 2) (global (export "g") (mut i32) (i32.const 40)) (data (i32.const 4) "\\07")
@@ -141,8 +158,9 @@ TRAPS = """(module (memory 1) (table 2 funcref) (elem (i32.const 1) $own) (type 
 TRAPPED = """(module (import "lib" "trap" (func $trap (param i32) (result i32))) (memory 1)
   (func (export "trap") (param i32) (result i32)
     i32.const 12 local.get 0 i32.store8 local.get 0 call $trap i32.const 12 i32.const 9 i32.store8))"""
-KINDS = ["unreachable", "integer divide by zero", "integer overflow", "out of bounds memory access", "undefined element", "uninitialized element",
-         "indirect call type mismatch", "call stack exhausted", "call stack exhausted"]
+KINDS = ["unreachable", "integer divide by zero", "integer overflow", "out of bounds memory access",
+         "undefined element", "uninitialized element", "indirect call type mismatch", "call stack exhausted",
+         "call stack exhausted"]
 
 # Each counts down one number by its own calls; the client then calls the library.
 DOWN = """(module (func $down (export "down") (param i32) (result i32)
@@ -155,35 +173,51 @@ EXHAUSTED = "trapped call stack exhausted"
 # Clients that keep to the interface.
 KEPT: List[Case] = [
     Case("each name a function of its own", FG, {"lib": ELEVEN}, {"client": BOTH},
-         [Call("client/both", [], "returned i32 1122"), Call("lib/f", [], "returned i32 11"), Call("lib/g", [], "returned i32 22")]),
-    Case("a client that hands on a function keeps the rest", "function - s lib/f\n", {"lib": ELEVEN}, {"client": HAND_ON},
+         [Call("client/both", [], "returned i32 1122"), Call("lib/f", [], "returned i32 11"),
+          Call("lib/g", [], "returned i32 22")]),
+    Case("a client that hands on a function keeps the rest", "function - s lib/f\n", {"lib": ELEVEN},
+         {"client": HAND_ON},
          [Call("client/one", [], "returned i32 11"), Call("lib/g", [], "returned i32 22")],
-         warned=["CLIENT/client.wasm: exports client/again, a function of the stub: under that name the stub's body runs"]),
-    Case("two names of one function on both sides", FG, {"lib": '(module (func $s (export "f") (export "g") (result i32) i32.const 4))'}, {"client": BOTH},
-         [Call("client/both", [], "returned i32 404")], {"lib": '(module (func $s (export "f") (export "g") (result i32) unreachable))'}),
-    Case("a table that holds a library's functions", "function tt t lib/add\nfunction s t lib/put\nfunction s t lib/get\n", {"lib": TABLED}, {"client": TABLES},
-         [Call("client/two", [1, 5, 6], "returned i32 11"), Call("client/one", [2, 0x1234], f"returned i32 {0x34}"),
-          Call("client/one", [3, 5], "returned i32 15"), Call("client/one", [4, 8], f"returned i32 {0x04030201}", [(0, 8, "01020304")]),
-          Call("client/one", [5, 255], "returned i32 255"), Call("client/one", [1, 5], "trapped indirect call type mismatch"),
-          Call("client/two", [4, 5, 6], "trapped indirect call type mismatch"), Call("client/one", [0, 5], "trapped uninitialized element"),
-          Call("client/one", [6, 5], "trapped uninitialized element"), Call("client/one", [7, 5], "trapped undefined element"),
+         warned=["CLIENT/client.wasm: exports client/again, a function of the stub: under that name "
+                 "the stub's body runs"]),
+    Case("two names of one function on both sides", FG,
+         {"lib": '(module (func $s (export "f") (export "g") (result i32) i32.const 4))'}, {"client": BOTH},
+         [Call("client/both", [], "returned i32 404")],
+         {"lib": '(module (func $s (export "f") (export "g") (result i32) unreachable))'}),
+    Case("a table that holds a library's functions", "function tt t lib/add\nfunction s t lib/put\nfunction "
+         "s t lib/get\n", {"lib": TABLED}, {"client": TABLES},
+         [Call("client/two", [1, 5, 6], "returned i32 11"),
+          Call("client/one", [2, 0x1234], f"returned i32 {0x34}"),
+          Call("client/one", [3, 5], "returned i32 15"),
+          Call("client/one", [4, 8], f"returned i32 {0x04030201}", [(0, 8, "01020304")]),
+          Call("client/one", [5, 255], "returned i32 255"),
+          Call("client/one", [1, 5], "trapped indirect call type mismatch"),
+          Call("client/two", [4, 5, 6], "trapped indirect call type mismatch"),
+          Call("client/one", [0, 5], "trapped uninitialized element"),
+          Call("client/one", [6, 5], "trapped uninitialized element"),
+          Call("client/one", [7, 5], "trapped undefined element"),
           Call("client/one", [4, 65533], "trapped out of bounds memory access")]),
     Case("several results", "function st ttt lib/three\n", {"lib": THREE}, {"client": RESULTS},
-         [Call("client/turned", [6, 7], "returned i32 8 i64 42 i64 8"), Call("client/as", [6, 7], "returned i64 8 i32 8 i64 42"),
-          Call("client/none", [0], "returned i64 6 i32 2 i64 0"), Call("client/none", [6], "returned i64 6 i32 8 i64 30"),
+         [Call("client/turned", [6, 7], "returned i32 8 i64 42 i64 8"),
+          Call("client/as", [6, 7], "returned i64 8 i32 8 i64 42"),
+          Call("client/none", [0], "returned i64 6 i32 2 i64 0"),
+          Call("client/none", [6], "returned i64 6 i32 8 i64 30"),
           Call("lib/three", [6, 7], "returned i64 8 i32 8 i64 42")]),
     Case("memories on both sides", STATES_IFACE, STATES, STATES_CLIENTS,
          [Call("first/twice", [8, 16], "returned i32 7"), Call("second/all", [77], "returned i32 10"),
           Call("second/all", [77], "returned i32 10", [(0, 8, "0505"), (1, 16, "0909"), (2, 12, "0808")]),
-          Call("second/small", [70000], "trapped out of bounds memory access"), Call("low/grow", [1], "returned i32 1"), Call("low/count", [], "returned i32 0"),
-          Call("first/twice", [65534, 16], "trapped out of bounds memory access"), Call("high/size", [], "returned i32 2"),
-          Call("high/put", [0, 9], "returned"), Call("high/load", [2], "returned i32 5", [(1, 2, "05")])], STATES_STUBS),
+          Call("second/small", [70000], "trapped out of bounds memory access"),
+          Call("low/grow", [1], "returned i32 1"), Call("low/count", [], "returned i32 0"),
+          Call("first/twice", [65534, 16], "trapped out of bounds memory access"),
+          Call("high/size", [], "returned i32 2"), Call("high/put", [0, 9], "returned"),
+          Call("high/load", [2], "returned i32 5", [(1, 2, "05")])], STATES_STUBS),
     Case("traps in the library", "function s t lib/trap\n", {"lib": TRAPS}, {"client": TRAPPED},
          [Call("client/trap", [number], f"trapped {kind}") for number, kind in enumerate(KINDS)]),
     Case("calls 1,024 deep across the border", "function s t lib/down\n", {"lib": DOWN}, {"client": DEPTH},
-         [Call("client/both", [own, 1022 - own + more], EXHAUSTED if more else "returned i32 1022") for own in (0, 1, 500, 1022) for more in (0, 1)]
-         + [Call("client/both", [1023, 0], EXHAUSTED), Call("client/both", [3, 4], "returned i32 7"), Call("lib/down", [1023], "returned i32 1023"),
-            Call("lib/down", [1024], EXHAUSTED)]),
+         [Call("client/both", [own, 1022 - own + more], EXHAUSTED if more else "returned i32 1022")
+          for own in (0, 1, 500, 1022) for more in (0, 1)]
+         + [Call("client/both", [1023, 0], EXHAUSTED), Call("client/both", [3, 4], "returned i32 7"),
+            Call("lib/down", [1023], "returned i32 1023"), Call("lib/down", [1024], EXHAUSTED)]),
 ]
 
 MODULE_F = "(module " + F_STUB + ")"
@@ -191,29 +225,48 @@ IMPORTING = '(module (import "lib" {0}))'
 
 # What blade-stub says besides of a stub, an interface, a library and clients.
 TOLD: List[Case] = [
-    Case("a name that the stub hasn't", FG, {"lib": ELEVEN}, {}, [], {"lib": MODULE_F}, warned=["the stub exports no function lib/g, which the interface names"]),
-    Case("a name that the library hasn't", FG, {"lib": MODULE_F}, {}, [], {"lib": ELEVEN}, warned=["the library exports no function lib/g, which the interface names"]),
-    Case("a name without a module", "function - s lib/f\nfunction - s lib\n", {"lib": '(module (func (export "f") (export "") (result i32) i32.const 1))'}, {}, [], {"lib": MODULE_F},
-         warned=["the library exports no function lib, which the interface names", "the stub exports no function lib, which the interface names"]),
-    Case("another type in the stub", "function - s lib/f\n", {"lib": ELEVEN}, {}, [], {"lib": '(module (func (export "f") (result i64) unreachable))'},
+    Case("a name that the stub hasn't", FG, {"lib": ELEVEN}, {}, [], {"lib": MODULE_F},
+         warned=["the stub exports no function lib/g, which the interface names"]),
+    Case("a name that the library hasn't", FG, {"lib": MODULE_F}, {}, [], {"lib": ELEVEN},
+         warned=["the library exports no function lib/g, which the interface names"]),
+    Case("a name without a module", "function - s lib/f\nfunction - s lib\n",
+         {"lib": '(module (func (export "f") (export "") (result i32) i32.const 1))'}, {}, [],
+         {"lib": MODULE_F},
+         warned=["the library exports no function lib, which the interface names",
+                 "the stub exports no function lib, which the interface names"]),
+    Case("another type in the stub", "function - s lib/f\n", {"lib": ELEVEN}, {}, [],
+         {"lib": '(module (func (export "f") (result i64) unreachable))'},
          warned=["lib/f has another type in the stub than in the library"]),
     Case("letters for what isn't there", "function t - lib/f\n", {"lib": ELEVEN}, {}, [], {"lib": MODULE_F},
          warned=["lib/f has 0 parameters and 1 results in the library, and 1 and 0 in the interface"]),
-    Case("a function that the interface doesn't name", "function - s lib/f\n", {"lib": ELEVEN}, {}, [], {"lib": ELEVEN},
+    Case("a function that the interface doesn't name", "function - s lib/f\n", {"lib": ELEVEN}, {}, [],
+         {"lib": ELEVEN},
          warned=["the stub exports lib/g, which isn't in the interface: who calls it runs the stub's body"]),
     Case("a global, a table and a module from nowhere", "function - s lib/f\n", {"lib": MODULE_F},
-         {"one": IMPORTING.format('"g" (global i32)'), "two": IMPORTING.format('"t" (table 1 funcref)'), "three": '(module (import "env" "f" (func)))'}, [], {"lib": MODULE_F},
-         warned=["CLIENT/one.wasm: imports global lib/g of the stub: it stays the stub's, apart from what the library has",
-                 "CLIENT/two.wasm: imports table lib/t of the stub: it stays the stub's, apart from what the library has",
-                 "CLIENT/three.wasm: imports function env/f, and no module of the stub or of a client is called env"]),
+         {"one": IMPORTING.format('"g" (global i32)'), "two": IMPORTING.format('"t" (table 1 funcref)'),
+          "three": '(module (import "env" "f" (func)))'}, [], {"lib": MODULE_F},
+         warned=["CLIENT/one.wasm: imports global lib/g of the stub: it stays the stub's, apart "
+                 "from what the library has",
+                 "CLIENT/two.wasm: imports table lib/t of the stub: it stays the stub's, apart "
+                 "from what the library has",
+                 "CLIENT/three.wasm: imports function env/f, and no module of the stub or of a "
+                 "client is called env"]),
     Case("a function of the stub that goes through two clients", "function - s lib/f\n", {"lib": MODULE_F},
-         {"one": f'(module {IMPORTS_F} (export "h" (func $f)))', "two": '(module (import "one" "h" (func $h (result i32))) (export "k" (func $h)))'}, [], {"lib": MODULE_F},
-         warned=["CLIENT/one.wasm: exports one/h, a function of the stub: under that name the stub's body runs",
-                 "CLIENT/two.wasm: exports two/k, a function of the stub: under that name the stub's body runs"]),
-    Case("a client called as the library", "function - s lib/f\n", {"lib": MODULE_F, "more": "(module)"}, {"more": "(module)"}, [], {"lib": MODULE_F},
+         {"one": f'(module {IMPORTS_F} (export "h" (func $f)))', "two": '(module (import "one" "h" (func $h '
+          '(result i32))) (export "k" (func $h)))'}, [], {"lib": MODULE_F},
+         warned=["CLIENT/one.wasm: exports one/h, a function of the stub: under that "
+                 "name the stub's body runs",
+                 "CLIENT/two.wasm: exports two/k, a function of the stub: under that name "
+                 "the stub's body runs"]),
+    Case("a client called as the library", "function - s lib/f\n", {"lib": MODULE_F, "more": "(module)"},
+         {"more": "(module)"}, [], {"lib": MODULE_F},
          warned=["two modules of the library and the clients are called more"]),
-    Case("modules that no call takes together", "function - s lib/f\n", {"lib": MODULE_F}, {f"c{number}": "(module)" for number in range(8)}, [], {"lib": MODULE_F},
-         warned=["the stub and the clients are 9 modules, and a call takes 8", "the library and the clients are 9 modules, and a call takes 8"]),
-    Case("a name that forges a line", "function - s lib/f\n", {"lib": MODULE_F}, {"client": f'(module {IMPORTS_F} (export "\\1b[2J\\0akept" (func $f)))'}, [], {"lib": MODULE_F},
-         warned=["CLIENT/client.wasm: exports client/\\x1b[2J\\nkept, a function of the stub: under that name the stub's body runs"]),
+    Case("modules that no call takes together", "function - s lib/f\n", {"lib": MODULE_F},
+         {f"c{number}": "(module)" for number in range(8)}, [], {"lib": MODULE_F},
+         warned=["the stub and the clients are 9 modules, and a call takes 8",
+                 "the library and the clients are 9 modules, and a call takes 8"]),
+    Case("a name that forges a line", "function - s lib/f\n", {"lib": MODULE_F},
+         {"client": f'(module {IMPORTS_F} (export "\\1b[2J\\0akept" (func $f)))'}, [], {"lib": MODULE_F},
+         warned=["CLIENT/client.wasm: exports client/\\x1b[2J\\nkept, a function of the stub: under that "
+                 "name the stub's body runs"]),
 ]

@@ -1,4 +1,5 @@
-"""What tools/checks/cc compiles: for each case its words, the status of blade-cc, what it has to say, and the source. Licence: public domain (CC0)."""
+"""What tools/checks/cc compiles: for each case its words, the status of blade-cc, what it has to say, and the
+source. Licence: public domain (CC0)."""
 from typing import List, NamedTuple
 
 
@@ -18,61 +19,83 @@ BIG = HEAD + "typedef struct { int w[4]; } big;\n"
 
 def wide_switch() -> str:
     """A switch of 300 cases that clang makes no table of."""
-    callees = "".join(f"__attribute__((noinline)) void g{i}(int x) {{ s {o} x; }}\n" for i, o in enumerate(("+=", "^=", "-=")))
-    cases = "".join(f"    case {i}: g{i % 3}(y + {i * i % 97}); g{(i + 1) % 3}({i}); break;\n" for i in range(300))
-    return HEAD + "BLADE_SECRET_MEMORY;\nint s;\n" + callees + "void f(int x, int y) {\n    switch (x) {\n" + cases + "    }\n}\n"
+    callees = "".join(f"__attribute__((noinline)) void g{i}(int x) {{ s {o} x; }}\n" for i,
+                      o in enumerate(("+=", "^=", "-=")))
+    cases = "".join(f"    case {i}: g{i % 3}(y + {i * i % 97}); g{(i + 1) % 3}({i}); break;\n"
+                    for i in range(300))
+    return (HEAD + "BLADE_SECRET_MEMORY;\nint s;\n" + callees + "void f(int x, int y) {\n    switch (x) {\n"
+            + cases + "    }\n}\n")
 
 
 LEAKS = [
-    Case("lookup", [], 1, ["lookup.c:5:42: warning: a secret is part of the address of a load", "[blade-load]",
+    Case("lookup", [], 1,
+         ["lookup.c:5:42: warning: a secret is part of the address of a load", "[blade-load]",
                            "lookup.c:4: note: parameter index of lookup is declared secret"],
-         HEAD + TABLE + "unsigned lookup(unsigned index);\nBLADE_SECRET_PARAM(lookup, index);\nunsigned lookup(unsigned index) { return table[index & 15]; }\n"),
+         HEAD + TABLE + "unsigned lookup(unsigned index);\nBLADE_SECRET_PARAM(lookup, index);\nunsigned "
+         "lookup(unsigned index) { return table[index & 15]; }\n"),
     Case("going", ["--no-fail"], 0, ["[blade-load]", "constant-time no"],
-         HEAD + TABLE + "int going(int x);\nBLADE_SECRET_PARAM(going, x);\nint going(int x) { return table[x & 15]; }\n"),
+         HEAD + TABLE + "int going(int x);\nBLADE_SECRET_PARAM(going, x);\nint going(int x) { "
+         "return table[x & 15]; }\n"),
     Case("branch", [], 1, ["branch.c:5:", "[blade-branch]"],
-         HEAD + "void branch(unsigned x);\nBLADE_SECRET_PARAM(branch, x);\n__attribute__((noinline)) void side(unsigned x) { *(volatile unsigned *)1024 = x; }\n"
+         HEAD + "void branch(unsigned x);\nBLADE_SECRET_PARAM(branch, x);\n__attribute__((noinline)) void "
+         "side(unsigned x) { *(volatile unsigned *)1024 = x; }\n"
          "void branch(unsigned x) { if (x > 3) side(1); }\n"),
     Case("division", [], 1, ["division.c:4:", "[blade-division]"],
-         HEAD + "int division(int x);\nBLADE_SECRET_PARAM(division, x);\nint division(int x) { return 1000 / (x | 1); }\n"),
+         HEAD + "int division(int x);\nBLADE_SECRET_PARAM(division, x);\nint division(int x) { "
+         "return 1000 / (x | 1); }\n"),
     Case("result", [], 1, ["[blade-public-demand]"],
-         HEAD + "int result(int x);\nBLADE_SECRET_PARAM(result, x);\nBLADE_PUBLIC_RESULT(result);\nint result(int x) { return x * 3; }\n"),
+         HEAD + "int result(int x);\nBLADE_SECRET_PARAM(result, x);\nBLADE_PUBLIC_RESULT(result);\nint "
+         "result(int x) { return x * 3; }\n"),
     Case("stored", [], 1, ["stored.c:4:", "[blade-public-memory]"],
-         HEAD + "void stored(int *p, int x);\nBLADE_SECRET_PARAM(stored, x);\nvoid stored(int *p, int x) { *p = x; }\n"),
-    # A label by words keeps the function from being inlined into its unit, where what it is given would be public.
+         HEAD + "void stored(int *p, int x);\nBLADE_SECRET_PARAM(stored, x);\nvoid stored(int *p, "
+         "int x) { *p = x; }\n"),
+    # A label by words keeps the function from being inlined into its unit, where what it is given would be
+    # public.
     Case("hole", ["--label", "secret-param scrambled 0"], 1, ["hole.c:3:", "[blade-load]"],
-         TABLE + "unsigned scrambled(unsigned key) { return key * 5 + 1; }\nunsigned chosen(unsigned x) { return table[scrambled(x) & 15]; }\n"),
+         TABLE + "unsigned scrambled(unsigned key) { return key * 5 + 1; }\nunsigned chosen(unsigned x) { "
+         "return table[scrambled(x) & 15]; }\n"),
     Case("kept", [], 1, ["kept.c:5:", "[blade-load]"],
-         HEAD + TABLE + "unsigned kept(unsigned key);\nBLADE_SECRET_PARAM(kept, key); unsigned kept(unsigned key) { return key * 5 + 1; }\n"
+         HEAD + TABLE + "unsigned kept(unsigned key);\nBLADE_SECRET_PARAM(kept, key); unsigned kept(unsigned "
+         "key) { return key * 5 + 1; }\n"
          "unsigned chosen(unsigned x) { return table[kept(x) & 15]; }\n"),
 ]
 YES = [
     Case("fine", [], 0, ["fine: constant-time yes"],
-         HEAD + "BLADE_SECRET_MEMORY;\nvoid fine(unsigned *p, unsigned n) { for (unsigned i = 0; i < n; i++) p[i] ^= 7; }\n"),
+         HEAD + "BLADE_SECRET_MEMORY;\nvoid fine(unsigned *p, unsigned n) { for (unsigned i = 0; i < "
+         "n; i++) p[i] ^= 7; }\n"),
     Case("fill", [], 0, ["fill: constant-time yes"],
-         HEAD + "#include <string.h>\nBLADE_SECRET_MEMORY;\nvoid fill(char *p, unsigned n) { memset(p, 0, n); }\n"),
+         HEAD + "#include <string.h>\nBLADE_SECRET_MEMORY;\nvoid fill(char *p, unsigned n) { "
+         "memset(p, 0, n); }\n"),
     Case("both", ["--label", "secret-memory 0 secret-param both 0"], 0, ["1 parameter, 1 memory"],
          HEAD + "int both(int x);\nBLADE_SECRET_PARAM(both, x);\nint both(int x) { return x + 1; }\n"),
-    Case("by_name", ["--label", "secret-param by_name key"], 0, ["1 parameter"], "int by_name(int mode, int key) { return mode + key; }\n"),
+    Case("by_name", ["--label", "secret-param by_name key"], 0, ["1 parameter"],
+         "int by_name(int mode, int key) { return mode + key; }\n"),
     Case("twice", [], 0, ["secret: 1 parameter\n"],
-         HEAD + "int f(int x);\nBLADE_SECRET_PARAM(f, x); BLADE_SECRET_PARAM(f, x);\nBLADE_SECRET_PARAM(f, 0);\nint f(int x) { return x; }\n"),
+         HEAD + "int f(int x);\nBLADE_SECRET_PARAM(f, x); BLADE_SECRET_PARAM(f, x);\nBLADE_SECRET_PARAM(f, "
+         "0);\nint f(int x) { return x; }\n"),
     Case("meant", ["--unlabelled"], 0, ["constant-time yes"], "unsigned meant(unsigned x) { return x; }\n"),
     Case("returned", MEMORY, 0, ["1 parameter, 1 memory"],
          BIG + "big f(int n);\nBLADE_SECRET_PARAM(f, n);\nbig f(int n) { big b = {{n}}; return b; }\n"),
     Case("second", ["-O0", *MEMORY], 0, ["1 parameter, 1 memory"],
-         BIG + "big f(int m, int n);\nBLADE_SECRET_PARAM(f, n);\nbig f(int m, int n) { big b = {{m, n}}; return b; }\n"),
+         BIG + "big f(int m, int n);\nBLADE_SECRET_PARAM(f, n);\nbig f(int m, int n) { big b = "
+         "{{m, n}}; return b; }\n"),
     Case("within", [], 0, ["1 parameter"],
-         HEAD + "static int g(int x);\nBLADE_SECRET_PARAM(g, x);\nstatic int g(int x) { return x + 1; }\nint h(int y) { return g(y) * 2; }\n"),
+         HEAD + "static int g(int x);\nBLADE_SECRET_PARAM(g, x);\nstatic int g(int x) { return x + 1; }\nint "
+         "h(int y) { return g(y) * 2; }\n"),
     Case("unoptimised", ["-O0", *MEMORY], 0, ["1 parameter, 1 memory"],
          HEAD + "int f(int x);\nBLADE_SECRET_PARAM(f, x);\nint f(int x) { return x * 2; }\n"),
-    Case("renamed", [], 0, ["1 parameter"], "#define f library_f\n" + HEAD + "int f(int x);\nBLADE_SECRET_PARAM(f, x);\nint f(int x) { return x; }\n"),
+    Case("renamed", [], 0, ["1 parameter"], "#define f library_f\n" + HEAD
+         + "int f(int x);\nBLADE_SECRET_PARAM(f, x);\nint f(int x) { return x; }\n"),
     Case("chosen", ["--export", "f"], 0, ["1 parameter"],
-         HEAD + "int f(int x);\nBLADE_SECRET_PARAM(f, x);\nint f(int x) { return x; }\nint unused(int x) { return 2 / x; }\n"),
+         HEAD + "int f(int x);\nBLADE_SECRET_PARAM(f, x);\nint f(int x) { return x; }\nint unused(int "
+         "x) { return 2 / x; }\n"),
     Case("much", ["--label", "secret-memory 0"], 0, ["constant-time yes"],
          "unsigned char room[400000] = {1};\nvoid much(unsigned i) { room[i] = 2; }\n"),
 ]
 # Labels that are wrong: an error at their line, and never a secret that is public in silence.
 LABELS = [
-    Case("none", [], 5, ["nothing is declared secret", "[blade-unlabelled]"], "unsigned none(unsigned x) { return x; }\n"),
+    Case("none", [], 5, ["nothing is declared secret", "[blade-unlabelled]"],
+         "unsigned none(unsigned x) { return x; }\n"),
     Case("misspelt", [], 3, ["misspelt.c:3:", "undeclared identifier 'mispelt'"],
          HEAD + "int misspelt(int x);\nBLADE_SECRET_PARAM(mispelt, x);\nint misspelt(int x) { return x; }\n"),
     Case("late", [], 3, ["late.c:3:", "attribute declaration must precede definition"],
@@ -82,28 +105,41 @@ LABELS = [
     Case("variable", [], 3, ["variable.c:3:", "attribute only applies to functions"],
          HEAD + "extern int key;\nBLADE_SECRET_PARAM(key, 0);\nint key = 3;\n"),
     Case("misnamed", [], 5, ["misnamed.c:3: error: misnamed has no parameter keyy: do you mean key?"],
-         HEAD + "int misnamed(int key);\nBLADE_SECRET_PARAM(misnamed, keyy);\nint misnamed(int key) { return key; }\n"),
+         HEAD + "int misnamed(int key);\nBLADE_SECRET_PARAM(misnamed, keyy);\nint misnamed(int "
+         "key) { return key; }\n"),
     Case("pointer", [], 5, ["pointer.c:4: error: p of f is a pointer"],
-         HEAD + "typedef const char *text;\nint f(text p);\nBLADE_SECRET_PARAM(f, p);\nint f(text p) { return p[0]; }\n"),
+         HEAD + "typedef const char *text;\nint f(text p);\nBLADE_SECRET_PARAM(f, p);\nint f(text "
+         "p) { return p[0]; }\n"),
     Case("struct", [], 5, ["struct.c:4: error: k of f is a struct by value"],
-         HEAD + "struct key { int w[4]; };\nint f(struct key k);\nBLADE_SECRET_PARAM(f, k);\nint f(struct key k) { return k.w[1]; }\n"),
+         HEAD + "struct key { int w[4]; };\nint f(struct key k);\nBLADE_SECRET_PARAM(f, k);\nint f(struct "
+         "key k) { return k.w[1]; }\n"),
     Case("dropped", ["-Wno-unused"], 5, ["dropped.c:3: error: there is no function g"],
-         HEAD + "static int g(int x);\nBLADE_SECRET_PARAM(g, x);\nstatic int g(int x) { return x + 1; }\nint h(int y) { return y; }\n"),
-    Case("unlined", ["-g0"], 5, ["unlined.c:3: error: f has no DWARF"], HEAD + "int f(int x);\nBLADE_SECRET_PARAM(f, 0);\nint f(int x) { return x * 2; }\n"),
-    Case("nothing", ["--label", "secret-param nothing kye"], 5, ["nothing has no parameter kye: do you mean key?"], "int nothing(int key) { return key; }\n"),
-    Case("nobody", ["--label", "secret-param nobdy 0"], 5, ["no function is called nobdy"], "int nobody(int x) { return x; }\n"),
+         HEAD + "static int g(int x);\nBLADE_SECRET_PARAM(g, x);\nstatic int g(int x) { return x + 1; }\nint "
+         "h(int y) { return y; }\n"),
+    Case("unlined", ["-g0"], 5, ["unlined.c:3: error: f has no DWARF"],
+         HEAD + "int f(int x);\nBLADE_SECRET_PARAM(f, 0);\nint f(int x) { return x * 2; }\n"),
+    Case("nothing", ["--label", "secret-param nothing kye"], 5,
+         ["nothing has no parameter kye: do you mean key?"], "int nothing(int key) { return key; }\n"),
+    Case("nobody", ["--label", "secret-param nobdy 0"], 5, ["no function is called nobdy"],
+         "int nobody(int x) { return x; }\n"),
 ]
 REFUSALS = [
     Case("float", [], 6, ["float.c:4:", "an instruction of floats", "[blade-float]", "in scaled"],
-         HEAD + "BLADE_SECRET_MEMORY;\nint scaled(int a) {\n    double x = a;\n    return (int)(x * 1.5);\n}\n"),
+         HEAD + "BLADE_SECRET_MEMORY;\nint scaled(int a) {\n    double x = a;\n    return "
+         "(int)(x * 1.5);\n}\n"),
     Case("switch", [], 6, ["switch.c:", "300 cases", "[blade-nesting]"], wide_switch()),
     Case("bulk", [], 6, ["bulk.c:3:", "an operation on whole memories", "[blade-instruction]"],
-         HEAD + 'BLADE_SECRET_MEMORY;\n__attribute__((target("bulk-memory"))) void f(char *p, const char *q, unsigned long n) { __builtin_memcpy(p, q, n); }\n'),
-    Case("import", MEMORY, 6, ["the function ask is imported from env, which no module gives", "[blade-import]"],
-         '__attribute__((import_module("env"), import_name("ask"))) int ask(void);\nint f(void) { return ask(); }\n'),
+         HEAD + 'BLADE_SECRET_MEMORY;\n__attribute__((target("bulk-memory"))) void f(char *p, const char *q, '
+         'unsigned long n) { __builtin_memcpy(p, q, n); }\n'),
+    Case("import", MEMORY, 6,
+         ["the function ask is imported from env, which no module gives", "[blade-import]"],
+         '__attribute__((import_module("env"), import_name("ask"))) int ask(void);\nint '
+         'f(void) { return ask(); }\n'),
     Case("unledgered", MEMORY, 6, ["compile and link with --ledger", "[blade-import]"],
-         '__attribute__((import_module("ledger"), import_name("ld32"))) unsigned ld32(unsigned);\nunsigned f(unsigned *p) { return ld32((unsigned)p); }\n'),
-    Case("pages", [*MEMORY, "--memory", "1"], 3, ["memory too small", "--memory PAGES"], "unsigned char room[70000] = {1};\nvoid pages(unsigned i) { room[i] = 2; }\n"),
+         '__attribute__((import_module("ledger"), import_name("ld32"))) unsigned ld32(unsigned);\nunsigned '
+         'f(unsigned *p) { return ld32((unsigned)p); }\n'),
+    Case("pages", [*MEMORY, "--memory", "1"], 3, ["memory too small", "--memory PAGES"],
+         "unsigned char room[70000] = {1};\nvoid pages(unsigned i) { room[i] = 2; }\n"),
     Case("heap", [], 3, ["undefined symbol: malloc", "malloc stands in no file that was given", "wasi-libc"],
          HEAD + "void *malloc(unsigned long);\nvoid *f(unsigned n) { return malloc(n); }\n"),
     Case("header", [], 3, ["'stdio.h' file not found", "apt-get install wasi-libc"], "#include <stdio.h>\n"),

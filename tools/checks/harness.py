@@ -1,7 +1,9 @@
-"""What the checks share: their options, the program, a folder of their own, and one vocabulary for results. Licence: public domain (CC0).
+"""What the checks share: their options, the program, a folder of their own, and one vocabulary for results.
+Licence: public domain (CC0).
 
-A check is a script with a list of functions. Each function takes a `Check` and tells it by `say` what is right. A result is `right`, `WRONG` or
-`skipped`; what this machine has no tool for is skipped. The status is 1 only if something is wrong, and 2 for arguments that aren't known."""
+A check is a script with a list of functions. Each function takes a `Check` and tells it by `say` what is
+right. A result is `right`, `WRONG` or `skipped`; what this machine has no tool for is skipped. The status is
+1 only if something is wrong, and 2 for arguments that aren't known."""
 from __future__ import annotations
 
 import argparse
@@ -17,9 +19,11 @@ from concurrent.futures import ThreadPoolExecutor
 from typing import Any, Callable, Iterable, List, Sequence, Tuple, TypeVar, Union
 
 TOP = os.path.dirname(os.path.dirname(os.path.dirname(os.path.realpath(__file__))))
-EXAMPLES, COMPANIONS, FORMATS, BENCH = (f"{TOP}/{name}" for name in ("examples", "companions", "formats", "bench"))
+EXAMPLES, COMPANIONS, FORMATS, BENCH = (f"{TOP}/{name}" for name in ("examples", "companions", "formats",
+                                                                     "bench"))
 sys.path[:0] = [COMPANIONS, FORMATS, BENCH]
-# The versions by which the examples' modules, their verdicts and the pages were made, as examples/README.md names them.
+# The versions by which the examples' modules, their verdicts and the pages were made, as examples/README.md
+# names them.
 VERSIONS = {"clang": "14.0.6", "wasm-ld": "14.0.6", "wasm-opt": "version 108", "wat2wasm": "1.0.32"}
 LONG = 800  # characters of a fault that are printed
 LANES = 2  # calls at a time
@@ -32,7 +36,8 @@ class Failed(Exception):
 
 def ran(*words: str, **more: Any) -> Tuple[int, str]:
     """The status of a command, and what it prints, with the errors behind it."""
-    done = subprocess.run(words, stdin=subprocess.DEVNULL, capture_output=True, text=True, check=False, **more)
+    done = subprocess.run(words, stdin=subprocess.DEVNULL, capture_output=True, text=True, check=False,
+                          **more)
     return done.returncode, done.stdout + done.stderr
 
 
@@ -53,7 +58,8 @@ def lanes(work: Callable[[Item], Found], items: Iterable[Item]) -> List[Found]:
 
 @functools.lru_cache(maxsize=None)
 def is_here(tool: str, exact: bool = False) -> bool:
-    """Whether this machine has a tool; with `exact`, whether it has the version by which the examples were made."""
+    """Whether this machine has a tool; with `exact`, whether it has the version by which the examples were
+    made."""
     found = shutil.which(tool, path=f"{os.environ['PATH']}:/usr/sbin")
     return bool(found) and (not exact or tool not in VERSIONS or VERSIONS[tool] in ran(tool, "--version")[1])
 
@@ -72,7 +78,8 @@ def write_bytes(path: str, data: Union[bytes, str]) -> str:
 
 
 class Check:
-    """Counts and prints what is right, wrong and skipped. It has the program, a folder for files, and the options."""
+    """Counts and prints what is right, wrong and skipped. It has the program, a folder for files, and the
+    options."""
 
     prints_right = True
 
@@ -88,7 +95,8 @@ class Check:
         text = str(more).strip()
         if len(text) > LONG:
             text = f"{text[: LONG // 2]} .. {text[-LONG // 2 :]}"
-        text = "".join(letter if letter.isprintable() or letter == "\n" else repr(letter)[1:-1] for letter in text)
+        text = "".join(letter if letter.isprintable() or letter == "\n" else repr(letter)[1:-1]
+                       for letter in text)
         if not holds or self.prints_right:
             print(f"right  {name}" if holds else f"WRONG  {name}{': ' * bool(text)}{text}", flush=True)
 
@@ -124,17 +132,22 @@ class Check:
         return read_bytes(self.path(name))
 
     def blade(self, *words: str) -> "subprocess.CompletedProcess[str]":
-        return subprocess.run([self.program, *words], capture_output=True, text=True, errors="replace", check=False, cwd=self.folder)
+        return subprocess.run([self.program, *words], capture_output=True, text=True, errors="replace",
+                              check=False, cwd=self.folder)
 
 
 Function = Callable[[Any], None]
 
 
-def options_of(doc: str, functions: Sequence[Function], add: Callable[[argparse.ArgumentParser], None]) -> argparse.Namespace:
+def options_of(doc: str, functions: Sequence[Function],
+               add: Callable[[argparse.ArgumentParser], None]) -> argparse.Namespace:
     """The options of a check: its own, which `add` declares, and those of all."""
-    parser = argparse.ArgumentParser(prog=f"tools/checks/{name_of_script()}", description=doc, formatter_class=argparse.RawDescriptionHelpFormatter)
-    parser.add_argument("program", nargs="?", default=os.environ.get("BLADE"), help="blade; else that of the variable BLADE; else what tools/building/program finds")
-    parser.add_argument("--only", default="", metavar="NAME,..", help=f"try only some of: {', '.join(it.__name__ for it in functions)}")
+    parser = argparse.ArgumentParser(prog=f"tools/checks/{name_of_script()}", description=doc,
+                                     formatter_class=argparse.RawDescriptionHelpFormatter)
+    parser.add_argument("program", nargs="?", default=os.environ.get("BLADE"),
+                        help="blade; else that of the variable BLADE; else what tools/building/program finds")
+    parser.add_argument("--only", default="", metavar="NAME,..",
+                        help=f"try only some of: {', '.join(it.__name__ for it in functions)}")
     parser.add_argument("--keep", metavar="FOLDER", help="write files into this folder, and keep them")
     add(parser)
     options = parser.parse_args()
@@ -159,9 +172,12 @@ def tried(check: Check, functions: Sequence[Function]) -> None:
                 check.say(function.__name__, False, failed)
 
 
-def main(doc: str, functions: Sequence[Function], make: Callable[..., Check] = Check, add: Callable[[argparse.ArgumentParser], None] = lambda parser: None,
-         tools: Sequence[str] = (), room: str = tempfile.gettempdir(), prefix: str = "check-", needs_program: bool = True) -> None:
-    """Runs a check, and ends with its status. Without the tools all of it is skipped. Files are written into a folder in `room`."""
+def main(doc: str, functions: Sequence[Function], make: Callable[..., Check] = Check,
+         add: Callable[[argparse.ArgumentParser], None] = lambda parser: None,
+         tools: Sequence[str] = (), room: str = tempfile.gettempdir(), prefix: str = "check-",
+         needs_program: bool = True) -> None:
+    """Runs a check, and ends with its status. Without the tools all of it is skipped. Files are written into
+    a folder in `room`."""
     options, begun, name = options_of(doc, functions, add), time.monotonic(), name_of_script()
     program = os.path.abspath(options.program or ran(f"{TOP}/tools/building/program")[1].strip() or "blade")
     if needs_program and not os.access(program, os.X_OK):
@@ -172,5 +188,6 @@ def main(doc: str, functions: Sequence[Function], make: Callable[..., Check] = C
         if check.has(f"all of {name}", *tools):
             tried(check, functions)
         os.chdir(TOP)
-    print(f"{name}: {check.right} right, {check.wrong} wrong, {check.skipped} skipped, {time.monotonic() - begun:.0f} seconds")
+    print(f"{name}: {check.right} right, {check.wrong} wrong, {check.skipped} skipped, "
+          f"{time.monotonic() - begun:.0f} seconds")
     sys.exit(1 if check.wrong else 0)

@@ -7,10 +7,10 @@ from dataclasses import dataclass
 from typing import Dict, Iterable, List, NamedTuple, Optional, Sequence, Tuple
 
 from . import paths
-from ..formats.lowering import Linked, Row
+from ..formats.lowering import LinkedFunction, Row
 from .sources import Sources
 from .symbolizer import Frame, frames_of, symbolizer
-from ..printing import shown
+from ..printing import printable
 
 HEADERS = (".h", ".inc", ".hpp")
 
@@ -25,7 +25,7 @@ class Line(NamedTuple):
 
     @property
     def place(self) -> str:
-        return f"{shown(paths.shown(self.path))}:{self.number or '?'}"
+        return f"{printable(paths.shown(self.path))}:{self.number or '?'}"
 
 
 NOWHERE = Line("", 0, "")
@@ -36,7 +36,7 @@ class Spot:
     """Where a position stands: its function and its instruction."""
 
     function: int
-    linked: Linked
+    linked: LinkedFunction
     row: Row
 
     @property
@@ -48,7 +48,7 @@ class Spot:
 class Lines:
     """Tells positions by the modules that an image was made of; without modules nothing but numbers."""
 
-    def __init__(self, functions: Sequence[Linked], sources: Optional[Sources] = None) -> None:
+    def __init__(self, functions: Sequence[LinkedFunction], sources: Optional[Sources] = None) -> None:
         self.functions = functions
         self.starts: List[int] = []
         self.rows: List[Tuple[int, Row]] = []

@@ -1,4 +1,5 @@
-"""The protects of an image: what each weighs, and the reason that its certificate gives. Licence: public domain (CC0)."""
+"""The protects of an image: what each weighs, and the reason that its certificate gives. Licence: public
+domain (CC0)."""
 from __future__ import annotations
 
 import json

@@ -51,8 +51,11 @@ def module(*sections: bytes) -> bytes:
     return MAGIC + b"".join(sections)
 
 
-def of_functions(types: Sequence[bytes], functions: Sequence[int], bodies: Sequence[bytes], more: bytes = b"", imports: Sequence[bytes] = ()) -> bytes:
-    """A module of types, imports, functions by their types, and their bodies; more sections are in front of the code."""
+def of_functions(types: Sequence[bytes], functions: Sequence[int], bodies: Sequence[bytes], more: bytes = b"",
+                 imports: Sequence[bytes] = ()) -> bytes:
+    """A module of types, imports, functions by their types, and their bodies; more sections are in front of
+    the code."""
     imported = section(2, vector(imports)) if imports else b""
     defined = section(3, vector([leb(one) for one in functions]))
-    return module(section(1, vector(types)), imported, defined, more, section(10, vector([sized(body) for body in bodies])))
+    return module(section(1, vector(types)), imported, defined, more,
+                  section(10, vector([sized(body) for body in bodies])))

@@ -1,4 +1,5 @@
-"""Images: the commands of a hardened program, and what it declares. The format is that of formats/FORMATS.md. Licence: public domain (CC0)."""
+"""Images: the commands of a hardened program, and what it declares. The format is that of formats/FORMATS.md.
+Licence: public domain (CC0)."""
 from __future__ import annotations
 
 import os
@@ -23,7 +24,8 @@ class Operand(NamedTuple):
 
 
 class Command(NamedTuple):
-    """A command: what it makes its value of, what an observer learns of, the variable it writes, and where it leads."""
+    """A command: what it makes its value of, what an observer learns of, the variable it writes, and where it
+    leads."""
 
     kind: str
     operands: Tuple[Operand, ...] = ()
@@ -125,7 +127,8 @@ class Image:
 
 
 def rising(reader: Reader, rest: int) -> List[Tuple[int, bytes]]:
-    """Things whose numbers rise, each spelled by how far it is from the least one; rest is how many bytes follow, or -1 for a number."""
+    """Things whose numbers rise, each spelled by how far it is from the least one; rest is how many bytes
+    follow, or -1 for a number."""
     found, least = [], 0
     for _ in range(reader.number()):
         number = least + reader.number()
@@ -158,7 +161,8 @@ def read_memory(reader: Reader) -> Memory:
 def read_function(reader: Reader) -> Function:
     params = reader.many(lambda: (value_type(reader), reader.bit()))
     results = len(reader.many(lambda: value_type(reader)))
-    function = Function([secret for _, secret in params], results, reader.number(), reader.number(), types=[kind for kind, _ in params])
+    function = Function([secret for _, secret in params], results, reader.number(), reader.number(),
+                        types=[kind for kind, _ in params])
     if not function.length or function.variables < function.params + results:
         raise Bad("image: rule 2 at 0")
     return function
@@ -191,14 +195,16 @@ def read_head(reader: Reader) -> Image:
         exports.setdefault(function, called(name))
     demands = reader.many(lambda: read_demand(reader)) if version == 2 else []
     weights = dict(rising(reader, -1)) if version == 2 else {}
-    return Image([one[0] for one in listed], [one[1] for one in listed], memories, functions, exports, entries, demands, weights)
+    return Image([one[0] for one in listed], [one[1] for one in listed], memories, functions, exports,
+                 entries, demands, weights)
 
 
 def check_head(image: Image) -> None:
     """Rules 1 to 3 and 9 of programs, as far as others take them for granted."""
     limited("reserve", sum(memory.reserve for memory in image.memories))
     limited("commands", TRAPS + sum(function.length for function in image.functions))
-    limited("variables", len(image.secret_globals) + len(image.memories) + sum(function.variables for function in image.functions))
+    limited("variables", len(image.secret_globals) + len(image.memories)
+            + sum(function.variables for function in image.functions))
     if len(image.functions) > MOST_FUNCTIONS:
         raise Bad("image: rule 2 at 0")
     if any(function >= len(image.functions) for function in image.entries.values()):
@@ -206,7 +212,8 @@ def check_head(image: Image) -> None:
     for function, index in image.demands:
         if function is None and index >= len(image.secret_globals):
             raise Bad("image: rule 9 at 0")
-        if function is not None and (function >= len(image.functions) or index >= image.functions[function].results):
+        if (function is not None
+            and (function >= len(image.functions) or index >= image.functions[function].results)):
             raise Bad("image: rule 9 at 0")
 
 
@@ -228,7 +235,8 @@ class CommandReader:
 
     def __init__(self, reader: Reader, image: Image) -> None:
         self.reader, self.image = reader, image
-        self.readers = [self.set, self.load, self.store, self.test, self.jump, self.arg, self.call, self.out, self.ret, self.trap]
+        self.readers = [self.set, self.load, self.store, self.test, self.jump, self.arg, self.call, self.out,
+                        self.ret, self.trap]
         self.position = TRAPS
 
     def kept(self, rule: int, holds: bool) -> None:
@@ -270,10 +278,12 @@ class CommandReader:
         mark, operator, to = self.mark(), self.code(ARITIES), self.variable()
         operands = tuple(self.operand() for _ in range(ARITIES[operator]))
         reads = named(operands)
-        return Command("Set", operands, reads, reads if operator in DIVISIONS else (), to, operator, mark=mark)
+        return Command("Set", operands, reads, reads if operator in DIVISIONS else (), to, operator,
+                       mark=mark)
 
     def load(self, _: Function) -> Command:
-        mark, access, memory, to = self.mark(), self.code(LOADS), self.number(len(self.image.memories)), self.variable()
+        mark, access, memory, to = self.mark(), self.code(LOADS), self.number(
+            len(self.image.memories)), self.variable()
         offset = self.reader.number()
         operands = (self.operand(),)
         return Command("Load", operands, (), named(operands), to, access, memory, offset=offset, mark=mark)
@@ -286,7 +296,8 @@ class CommandReader:
 
     def test(self, function: Function) -> Command:
         operands = (self.operand(),)
-        return Command("Test", operands, (), named(operands), targets=(self.target(function), self.target(function)))
+        return Command("Test", operands, (), named(operands),
+                       targets=(self.target(function), self.target(function)))
 
     def jump(self, function: Function) -> Command:
         return Command("Jump", targets=(self.target(function),))
@@ -302,7 +313,8 @@ class CommandReader:
     def out(self, function: Function) -> Command:
         mark, index = self.mark(), self.number(function.results)
         operands = (self.operand(),)
-        return Command("Out", operands, named(operands), (), function.first + function.params + index, mark=mark)
+        return Command("Out", operands, named(operands), (), function.first + function.params + index,
+                       mark=mark)
 
     def ret(self, _: Function) -> Command:
         return Command("Ret")

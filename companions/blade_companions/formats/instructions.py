@@ -16,7 +16,8 @@ TWO = frozenset([CALL_INDIRECT, *ACCESS_NAMES])
 
 
 class Instruction(NamedTuple):
-    """An instruction: its place, its code, and the numbers behind it; of br_table the last one is where it leads by default."""
+    """An instruction: its place, its code, and the numbers behind it; of br_table the last one is where it
+    leads by default."""
 
     place: int
     code: int

@@ -1,5 +1,5 @@
-"""Stubs, over which the users of a library are hardened apart: made of the library and its interface, and checked with the users. Licence: public domain
-(CC0)."""
+"""Stubs, over which the users of a library are hardened apart: made of the library and its interface, and
+checked with the users. Licence: public domain (CC0)."""
 from __future__ import annotations
 
 import re
@@ -23,12 +23,13 @@ class Line(NamedTuple):
 
     @property
     def parts(self) -> Tuple[str, Optional[str]]:
-        """The module's name, and that of the export; None where the name has no solidus, and so names nothing."""
+        """The module's name, and that of the export; None where the name has no solidus, and so names
+        nothing."""
         module, solidus, export = self.name.partition("/")
         return module, export if solidus else None
 
 
-class Found(NamedTuple):
+class Defined(NamedTuple):
     """A function: the module that defines it, and its number there."""
 
     module: Module
@@ -65,7 +66,7 @@ class Linked:
         self.modules = modules
         self.places = {module.name: place for place, module in enumerate(modules)}
 
-    def function(self, module: str, export: Optional[str]) -> Optional[Found]:
+    def function(self, module: str, export: Optional[str]) -> Optional[Defined]:
         """The function that a module exports under a name, where it is defined."""
         end = len(self.modules)
         while self.places.get(module, end) < end:
@@ -73,7 +74,7 @@ class Linked:
             index = self.modules[end].exports.get((FUNCTION, export))
             imported = self.modules[end].imported(FUNCTION)
             if index is None or index >= len(imported):
-                return None if index is None else Found(self.modules[end], index)
+                return None if index is None else Defined(self.modules[end], index)
             module, export = imported[index].module, imported[index].name
         return None
 
@@ -85,7 +86,8 @@ class Linked:
 # ---- made
 
 def body(earlier: int) -> bytes:
-    """A body of its own behind so many functions of the type: it divides their number by 0, which wasm-opt doesn't take for the division of another."""
+    """A body of its own behind so many functions of the type: it divides their number by 0, which wasm-opt
+    doesn't take for the division of another."""
     own = b"\x41" + signed_leb(earlier) + b"\x41\x00\x6e" if earlier else b""
     return leb(0) + own + UNREACHABLE + END
 
@@ -116,7 +118,8 @@ def unfit(lines: Sequence[Line], library: Linked) -> List[str]:
         if kind is None:
             told.append(f"the library exports no function {line.name}, which the interface names")
         elif (len(kind.params), len(kind.results)) != line[:2]:
-            told.append(f"{line.name} has {len(kind.params)} parameters and {len(kind.results)} results in the library, and {line.params} and {line.results} in the interface")
+            told.append(f"{line.name} has {len(kind.params)} parameters and {len(kind.results)} results in "
+                        f"the library, and {line.params} and {line.results} in the interface")
     return told
 
 
@@ -132,8 +135,10 @@ def unlike(lines: Sequence[Line], stub: Linked, library: Linked) -> List[str]:
     for module in stub.modules:
         for sort, export in module.exports:
             if sort == FUNCTION and (module.name, export) not in named:
-                where = "isn't in the interface" if library.function(module.name, export) else "neither the interface nor the library has"
-                told.append(f"the stub exports {module.name}/{export}, which {where}: who calls it runs the stub's body")
+                where = ("isn't in the interface" if library.function(module.name, export)
+                         else "neither the interface nor the library has")
+                told.append(f"the stub exports {module.name}/{export}, which {where}: who calls "
+                            "it runs the stub's body")
     return told
 
 
@@ -148,12 +153,14 @@ def merged(lines: Sequence[Line], stub: Linked, library: Linked) -> List[str]:
         other = first.setdefault(here.key, line)
         known = library.function(*other.parts)
         if known is None or known.key != there.key:
-            told.append(f"{other.name} and {line.name} are one function of the stub, and two of the library: calls of both go to {other.name}")
+            told.append(f"{other.name} and {line.name} are one function of the stub, and two of the library: "
+                        f"calls of both go to {other.name}")
     return told
 
 
 def kept_from(one: Import, named: Set[Tuple[str, Optional[str]]], stub: Linked, users: Set[str]) -> str:
-    """What is wrong with an import of a user; nothing where it is of a user, or of a name of the interface."""
+    """What is wrong with an import of a user; nothing where it is of a user, or of a name of the
+    interface."""
     if one.module in users or (one.module, one.name) in named:
         return ""
     told = f"imports {SORTS[one.sort]} {one.module}/{one.name}"
@@ -170,20 +177,25 @@ def handed_on(user: Module, client: Linked, stub: Linked) -> List[str]:
     for sort, export in user.exports:
         found = client.function(user.name, export) if sort == FUNCTION else None
         if found and found.module.name in stub.places:
-            told.append(f"{user.path}: exports {user.name}/{export}, a function of the stub: under that name the stub's body runs")
+            told.append(f"{user.path}: exports {user.name}/{export}, a function of the stub: under that "
+                        "name the stub's body runs")
     return told
 
 
 def crowded(modules: Sequence[Module], what: str) -> List[str]:
     """Modules that no call takes together."""
     names = [module.name for module in modules]
-    told = [f"two modules of {what} are called {name}" for name in sorted(set(names)) if names.count(name) > 1]
-    return told + [f"{what} are {len(names)} modules, and a call takes {LIMITS['modules']}"] * (len(names) > LIMITS["modules"])
+    told = [f"two modules of {what} are called {name}"
+            for name in sorted(set(names)) if names.count(name) > 1]
+    return told + [f"{what} are {len(names)} modules, and a call takes "
+                   f"{LIMITS['modules']}"] * (len(names) > LIMITS["modules"])
 
 
-def faults(lines: Sequence[Line], stubs: Sequence[Module], libraries: Sequence[Module], users: Sequence[Module]) -> List[str]:
+def faults(lines: Sequence[Line], stubs: Sequence[Module], libraries: Sequence[Module],
+           users: Sequence[Module]) -> List[str]:
     """What of the law on joined images doesn't hold: each premise on modules that is broken, in a line."""
-    told = crowded([*stubs, *users], "the stub and the clients") + crowded([*libraries, *users], "the library and the clients")
+    told = crowded([*stubs, *users],
+                   "the stub and the clients") + crowded([*libraries, *users], "the library and the clients")
     stub, library, client = Linked(stubs), Linked(libraries), Linked([*stubs, *users])
     told += unfit(lines, library) + unlike(lines, stub, library) + merged(lines, stub, library)
     named, called = {line.parts for line in lines}, {user.name for user in users}

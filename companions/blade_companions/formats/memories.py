@@ -27,4 +27,5 @@ def with_pages(module: Module, pages: Tuple[int, Optional[int]]) -> bytes:
     least, most = pages
     contents = b"\1" + (b"\0" if most is None else b"\1") + leb(least) + (b"" if most is None else leb(most))
     made = section(MEMORIES, contents)
-    return MAGIC + b"".join(made if one.number == MEMORIES else module.data[one.start : one.end] for one in module.sections)
+    return MAGIC + b"".join(made if one.number == MEMORIES else module.data[one.start : one.end]
+                            for one in module.sections)

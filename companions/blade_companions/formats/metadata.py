@@ -1,14 +1,18 @@
-"""Where the protects of an image stand in the binaries of its modules: for runtimes, whose compilers put their fences there. A custom section
-metadata.code.blade.protect by the code metadata of WebAssembly's tool conventions. Licence: public domain (CC0).
+"""Where the protects of an image stand in the binaries of its modules: for runtimes, whose compilers put
+their fences there. A custom section metadata.code.blade.protect by the code metadata of WebAssembly's tool
+conventions. Licence: public domain (CC0).
 
-Of each function with protects, its index and its annotations, rising by offset: the offset of an instruction from the start of the function's body (where
-its locals are declared), the size of the data, and the data. The data here is one entry behind the other, each two or more bytes:
+Of each function with protects, its index and its annotations, rising by offset: the offset of an instruction
+from the start of the function's body (where its locals are declared), the size of the data, and the data. The
+data here is one entry behind the other, each two or more bytes:
 
-    00        the instruction's result: what it leaves on the stack (or, of local.set, local.tee and global.set, what it writes)
-    01 N      its operand N, counted from 0, the deepest one first: an argument of a call, a value that a branch or an end hands on
-    02 N      its result N, of a call with several
-    03 K      a value that it makes inside: K is 0 that an access is in bounds, 1 that a divisor is zero, 2 that a division overflows, 3 that an index of
-              a table (br_table, call_indirect) is that of an arm, 4 that a memory has room to grow, 5 the size that it has from then on
+    00        the instruction's result: what it leaves on the stack (or, of local.set, local.tee and
+    global.set, what it writes) 01 N      its operand N, counted from 0, the deepest one first: an argument of
+    a call, a value that a branch or an end hands on 02 N      its result N, of a call with several 03 K
+    a value that it makes inside: K is 0 that an access is in bounds, 1 that a divisor is zero, 2 that a
+    division overflows, 3 that an index of
+              a table (br_table, call_indirect) is that of an arm, 4 that a memory has room to grow, 5 the
+              size that it has from then on
 An entry says that the value may not be used while an older branch or bounds test is unresolved."""
 from __future__ import annotations
 
@@ -41,8 +45,10 @@ class Held(NamedTuple):
         return WHAT[self.what] + (f" {self.number}" if self.what in (OPERAND, MANY) else "")
 
 
-# Of memory.grow: what room there is, that it is too little, the old size, the new one, and -1 in place of the old one.
-GROWTH = {0: Held(INSIDE, ROOM), 1: Held(INSIDE, ROOM), 3: Held(RESULT, 0), 4: Held(INSIDE, SIZE), 6: Held(RESULT, 0)}
+# Of memory.grow: what room there is, that it is too little, the old size, the new one, and -1 in place of the
+# old one.
+GROWTH = {0: Held(INSIDE, ROOM), 1: Held(INSIDE, ROOM), 3: Held(RESULT, 0), 4: Held(INSIDE, SIZE),
+          6: Held(RESULT, 0)}
 
 
 def held_at(spot: Spot, position: int) -> Optional[Held]:
@@ -65,8 +71,10 @@ def held_at(spot: Spot, position: int) -> Optional[Held]:
         return indirect(kinds, at)
     if word == "br_table":
         # First a test for each arm, then the values for each way.
-        arms = next((place for place in range(0, len(kinds), 2) if kinds[place : place + 2] != ("Set", "Test")), len(kinds))
-        return Held(INSIDE, ARM) if at < arms else Held(OPERAND, moved(kinds, at)) if kinds[at] in ("Set", "Out") else None
+        arms = next((place for place in range(0, len(kinds), 2)
+                     if kinds[place : place + 2] != ("Set", "Test")), len(kinds))
+        return (Held(INSIDE, ARM) if at < arms else Held(OPERAND, moved(kinds, at))
+                if kinds[at] in ("Set", "Out") else None)
     if word in ("br", "br_if", "return", "end", "else", "loop", "if"):
         return Held(OPERAND, moved(kinds, at)) if kinds[at] in ("Set", "Out") else None
     if kinds == ("Set",):
@@ -105,7 +113,8 @@ def result(kinds: Sequence[str], at: int, call: int) -> Held:
 
 
 class Annotated(NamedTuple):
-    """Annotations of a module by function and offset; and the positions that have none, with their instructions."""
+    """Annotations of a module by function and offset; and the positions that have none, with their
+    instructions."""
 
     places: Dict[int, Dict[int, List[Held]]]
     lost: List[Tuple[int, str]]
@@ -113,7 +122,8 @@ class Annotated(NamedTuple):
 
 def annotations(image: Image, lines: Lines) -> Dict[str, Annotated]:
     """Of each module, by its path."""
-    found: Dict[str, Annotated] = {linked.module.path: Annotated(defaultdict(lambda: defaultdict(list)), []) for linked in lines.functions}
+    found: Dict[str, Annotated] = {linked.module.path: Annotated(defaultdict(lambda: defaultdict(list)), [])
+                                   for linked in lines.functions}
     for position in image.protects():
         spot = lines.spot(position)
         if spot is None:
@@ -133,7 +143,8 @@ def annotations(image: Image, lines: Lines) -> Dict[str, Annotated]:
 def section_of(one: Annotated) -> bytes:
     functions = []
     for function, places in sorted(one.places.items()):
-        listed = [leb(offset) + sized(b"".join(map(entry_of, sorted(held)))) for offset, held in sorted(places.items())]
+        listed = [leb(offset) + sized(b"".join(map(entry_of, sorted(held)))) for offset,
+                  held in sorted(places.items())]
         functions.append(leb(function) + vector(listed))
     return custom(NAME, vector(functions))
 
@@ -143,7 +154,8 @@ def entry_of(held: Held) -> bytes:
 
 
 def annotated(module: Module, one: Annotated) -> bytes:
-    """The module with the section in front of its code, as the conventions ask; its code stays as it is, byte for byte."""
+    """The module with the section in front of its code, as the conventions ask; its code stays as it is, byte
+    for byte."""
     parts = []
     for section in module.sections:
         if section.name == NAME:

@@ -1,4 +1,5 @@
-"""Modules of WebAssembly: what they define, import and export, and what their functions are called. Licence: public domain (CC0)."""
+"""Modules of WebAssembly: what they define, import and export, and what their functions are called. Licence:
+public domain (CC0)."""
 from __future__ import annotations
 
 import os
@@ -33,7 +34,8 @@ class Element(NamedTuple):
 
 
 class Section(NamedTuple):
-    """A section: its number, where it begins and where its contents do, its end, and its name where it is a custom one."""
+    """A section: its number, where it begins and where its contents do, its end, and its name where it is a
+    custom one."""
 
     number: int
     start: int
@@ -54,7 +56,8 @@ class Module:
     functions: List[int] = field(default_factory=list)  # the index of each one's type
     tables: List[int] = field(default_factory=list)  # the slots of each; -1 where it is imported
     memories: int = 0
-    globals: List[Optional[int]] = field(default_factory=list)  # the first value of each; None where it is imported
+    # the first value of each; None where it is imported
+    globals: List[Optional[int]] = field(default_factory=list)
     exports: Dict[Tuple[int, str], int] = field(default_factory=dict)
     elements: List[Element] = field(default_factory=list)
     code: int = 0  # where the contents of the code section begin
@@ -130,7 +133,8 @@ class ModuleReader:
         self.call()
 
     def check(self) -> None:
-        """What others take for granted: each function has a type and, where it is defined, code; what is exported and listed exists."""
+        """What others take for granted: each function has a type and, where it is defined, code; what is
+        exported and listed exists."""
         module = self.module
         limited("functions", len(module.functions))
         for kind in module.types:

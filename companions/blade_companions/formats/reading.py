@@ -7,9 +7,10 @@ from typing import BinaryIO, Callable, List, TypeVar
 Item = TypeVar("Item")
 # The limits of docs/CLI.md: bytes of files, then numbers.
 LIMITS = {
-    "module": 4_194_304, "image": 134_217_728, "certificate": 268_435_456, "start": 16_777_216, "report": 268_435_456, "interface": 1_048_576,
-    "modules": 8, "functions": 10_000, "results": 1_024, "table": 1_024, "memory": 256, "reserve": 1_024, "locals": 4_096, "nesting": 256,
-    "targets": 1_024, "commands": 1_048_576, "variables": 2_147_483_647}
+    "module": 4_194_304, "image": 134_217_728, "certificate": 268_435_456, "start": 16_777_216,
+    "report": 268_435_456, "interface": 1_048_576, "modules": 8, "functions": 10_000, "results": 1_024,
+    "table": 1_024, "memory": 256, "reserve": 1_024, "locals": 4_096, "nesting": 256, "targets": 1_024,
+    "commands": 1_048_576, "variables": 2_147_483_647}
 MOST_CALLS = 1_024
 
 
@@ -104,4 +105,5 @@ def whole(file: BinaryIO, what: str) -> bytes:
 
 def read_text(path: str, what: str) -> str:
     """A text in a file, or in the standard input (-)."""
-    return (whole(sys.stdin.buffer, what) if path == "-" else read_file(path, what)).decode("utf-8", "replace")
+    return (whole(sys.stdin.buffer, what) if path == "-"
+            else read_file(path, what)).decode("utf-8", "replace")

@@ -1,16 +1,19 @@
-"""Runs of an image in the order of its program: what they execute, and traces of them. Licence: public domain (CC0)."""
+"""Runs of an image in the order of its program: what they execute, and traces of them. Licence: public domain
+(CC0)."""
 from __future__ import annotations
 
 import re
 from collections import Counter
 from dataclasses import dataclass, field
-from typing import Callable, Dict, Iterator, List, Tuple
+from typing import Callable, Dict, Iterator, List, Optional, Tuple
 
-from .image import TRAPS, Image
+from .image import TRAPS, Command, Image, Operand
 from .operators import ACCESS_NAMES, DIVISIONS, MOVE, OPERATIONS, OPERATORS, OUTSIDE, SELECT, width_of
 from .reading import MOST_CALLS, Bad
 
 PAGE = 65536
+# a position, its command, and whether the condition of a Test isn't 0
+Step = Tuple[int, Command, Optional[bool]]
 
 
 def signed(value: int, bits: int) -> int:
@@ -32,20 +35,26 @@ def rotated(a: int, by: int, bits: int) -> int:
 ARITHMETIC: Dict[str, Callable[[int, int, int], int]] = {
     "add": lambda a, b, n: a + b, "sub": lambda a, b, n: a - b, "mul": lambda a, b, n: a * b,
     "and": lambda a, b, n: a & b, "or": lambda a, b, n: a | b, "xor": lambda a, b, n: a ^ b,
-    "shl": lambda a, b, n: a << b % n, "shr_u": lambda a, b, n: a >> b % n, "shr_s": lambda a, b, n: signed(a, n) >> b % n,
+    "shl": lambda a, b, n: a << b % n, "shr_u": lambda a, b, n: a >> b % n, "shr_s": lambda a, b,
+    n: signed(a, n) >> b % n,
     "rotl": lambda a, b, n: rotated(a, b, n), "rotr": lambda a, b, n: rotated(a, -b, n),
     "div_u": lambda a, b, n: a // b if b else 0, "rem_u": lambda a, b, n: a % b if b else 0,
     "div_s": lambda a, b, n: quotient(signed(a, n), signed(b, n)) if b else 0,
     "rem_s": lambda a, b, n: signed(a, n) - signed(b, n) * quotient(signed(a, n), signed(b, n)) if b else 0,
-    "eq": lambda a, b, n: a == b, "ne": lambda a, b, n: a != b, "lt_u": lambda a, b, n: a < b, "gt_u": lambda a, b, n: a > b,
+    "eq": lambda a, b, n: a == b, "ne": lambda a, b, n: a != b, "lt_u": lambda a, b, n: a < b,
+    "gt_u": lambda a, b, n: a > b,
     "le_u": lambda a, b, n: a <= b, "ge_u": lambda a, b, n: a >= b,
     "lt_s": lambda a, b, n: signed(a, n) < signed(b, n), "gt_s": lambda a, b, n: signed(a, n) > signed(b, n),
-    "le_s": lambda a, b, n: signed(a, n) <= signed(b, n), "ge_s": lambda a, b, n: signed(a, n) >= signed(b, n),
+    "le_s": lambda a, b, n: signed(a, n) <= signed(b, n), "ge_s": lambda a, b,
+    n: signed(a, n) >= signed(b, n),
 }
 SINGLE: Dict[str, Callable[[int, int], int]] = {
-    "eqz": lambda a, n: a == 0, "clz": lambda a, n: n - a.bit_length(), "ctz": lambda a, n: (a & -a).bit_length() - 1 if a else n,
-    "popcnt": lambda a, n: bin(a).count("1"), "wrap_i64": lambda a, n: a, "extend_i32_s": lambda a, n: signed(a, 32),
-    "extend_i32_u": lambda a, n: a, "extend8_s": lambda a, n: signed(a, 8), "extend16_s": lambda a, n: signed(a, 16),
+    "eqz": lambda a, n: a == 0, "clz": lambda a, n: n - a.bit_length(), "ctz": lambda a,
+    n: (a & -a).bit_length() - 1 if a else n,
+    "popcnt": lambda a, n: bin(a).count("1"), "wrap_i64": lambda a, n: a, "extend_i32_s": lambda a,
+    n: signed(a, 32),
+    "extend_i32_u": lambda a, n: a, "extend8_s": lambda a, n: signed(a, 8), "extend16_s": lambda a,
+    n: signed(a, 16),
     "extend32_s": lambda a, n: signed(a, 32),
 }
 
@@ -120,15 +129,17 @@ class Run:
             self.spaces[number][offset : offset + len(data)] = data
         self.statics = dict(enumerate(image.first_globals + [memory.pages for memory in image.memories]))
         self.bound = len(self.statics)
-        self.frames: List[Dict[int, int]] = [{}, {defined.first + at: value for at, value in enumerate(start.arguments)}]
+        self.frames: List[Dict[int, int]] = [{}, {defined.first + at: value for at,
+                                                  value in enumerate(start.arguments)}]
         self.entering: Dict[int, int] = {}
         self.returns: List[int] = []
         self.position, self.left = defined.entry, False
         self.meanings = {code: meaning(code) for code in OPERATIONS}
         self.widths = {code: width_of(name) for code, name in ACCESS_NAMES.items()}
-        self.extends = {code: (width_of(name) * 8, int(name[1:3])) for code, name in ACCESS_NAMES.items() if name.endswith("_s")}
+        self.extends = {code: (width_of(name) * 8, int(name[1:3])) for code,
+                        name in ACCESS_NAMES.items() if name.endswith("_s")}
 
-    def value(self, operand) -> int:
+    def value(self, operand: Operand) -> int:
         if not operand[0]:
             return operand[1]
         variable = operand[1]
@@ -140,8 +151,9 @@ class Run:
         else:
             self.frames[-1][variable] = value
 
-    def step(self):
-        """Executes one command, and gives its position, it, and where a Test leads whether its condition isn't 0."""
+    def step(self) -> Step:
+        """Executes one command, and gives its position, it, and where a Test leads whether its condition
+        isn't 0."""
         position = self.position
         command = self.image.commands[position]
         self.position = position + 1
@@ -159,8 +171,9 @@ class Run:
             self.move(command)
         return position, command, taken
 
-    def access(self, command) -> None:
-        at, size = (self.value(command.operands[0]) & 0xFFFFFFFF) + command.offset, self.widths[command.operator]
+    def access(self, command: Command) -> None:
+        at, size = (
+            self.value(command.operands[0]) & 0xFFFFFFFF) + command.offset, self.widths[command.operator]
         space = self.spaces[command.memory]
         if command.kind == "Store":
             value = self.value(command.operands[1]) & ((1 << 8 * size) - 1)
@@ -172,7 +185,7 @@ class Run:
             value = signed(value, narrow) & ((1 << wide) - 1)
         self.write(command.writes, value)
 
-    def move(self, command) -> None:
+    def move(self, command: Command) -> None:
         """Arg, Out, Call, Ret and Trap."""
         if command.kind == "Arg":
             self.entering[command.writes] = self.value(command.operands[0])
@@ -189,7 +202,7 @@ class Run:
         else:
             self.left = True
 
-    def steps(self, most: int) -> Iterator[tuple]:
+    def steps(self, most: int) -> Iterator[Step]:
         """Its steps to its end, or so many."""
         for _ in range(most):
             if self.left:
@@ -208,7 +221,7 @@ def counts(run: Run, most: int) -> Counter:
     return found
 
 
-def freed(entry: int, command) -> List[str]:
+def freed(entry: int, command: Command) -> List[str]:
     """A protected value is held back at first, and set free by executing it once more."""
     return [f"exec {entry}"] * (command.mark >= 8)
 
@@ -227,7 +240,7 @@ def traced(run: Run, most: int) -> Iterator[str]:
             yield from ("fetch", "exec 0", *freed(0, command), "retire")
 
 
-def access_trace(bounds, steps) -> Iterator[str]:
+def access_trace(bounds: Command, steps: Iterator[Step]) -> Iterator[str]:
     """The bounds, their test and the access behind them, which is executed first."""
     _, _, outside = next(steps)
     if outside:
@@ -236,4 +249,5 @@ def access_trace(bounds, steps) -> Iterator[str]:
     _, access, _ = next(steps, (0, None, None))
     if access is None:
         return
-    yield from ("fetch", "fetch 0", "fetch", "exec 2", "exec 0", *freed(0, bounds), "exec 1", *freed(2, access), "retire", "retire", "retire")
+    yield from ("fetch", "fetch 0", "fetch", "exec 2", "exec 0", *freed(0, bounds), "exec 1",
+                *freed(2, access), "retire", "retire", "retire")

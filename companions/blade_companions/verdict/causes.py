@@ -28,7 +28,8 @@ class Cause:
     source: str
     origins: List[Origin]
     counts: Dict[str, int] = field(default_factory=dict)
-    reached: List[End] = field(default_factory=list)  # the refused ends, those first to which the way is short
+    # the refused ends, those first to which the way is short
+    reached: List[End] = field(default_factory=list)
     reach: Optional[Reach] = None
     likely: Optional[Guess] = None
     shown: str = ""  # what a run and a witness show, in place of what is likely
@@ -53,7 +54,8 @@ class Cause:
 
 
 def told_by_callers(found: Findings, lines: Lines) -> List[Origin]:
-    """The origins that cause something; a load in a module without lines (an accessor) is told by the sites with lines that take its value."""
+    """The origins that cause something; a load in a module without lines (an accessor) is told by the sites
+    with lines that take its value."""
     told: List[Origin] = []
     for origin in found.guilty:
         spot = lines.spot(origin.position) if origin.position is not None else None
@@ -78,13 +80,15 @@ def takers(found: Findings, lines: Lines, origin: Origin, declared: str) -> List
 
 
 def key_of(origin: Origin, lines: Lines) -> Tuple[str, str, str]:
-    """What is told of an origin: what declares it, the line that loads it (else the instruction), and that line's text."""
+    """What is told of an origin: what declares it, the line that loads it (else the instruction), and that
+    line's text."""
     if origin.position is None:
         return origin.declared, parameter_place(origin, lines), ""
     line = lines.line(origin.position)
     if line is not NOWHERE:
         return origin.declared, lines.place(origin.position), lines.source(line)
-    return origin.declared, f"{lines.place(origin.position)} position {origin.position}".strip(), lines.instruction(origin.position)
+    return (origin.declared, f"{lines.place(origin.position)} position {origin.position}".strip(),
+            lines.instruction(origin.position))
 
 
 def parameter_place(origin: Origin, lines: Lines) -> str:

@@ -1,25 +1,28 @@
-"""Whether what is told here is what the program says: its report, and the commands of the modules. Licence: public domain (CC0)."""
+"""Whether what is told here is what the program says: its report, and the commands of the modules. Licence:
+public domain (CC0)."""
 from __future__ import annotations
 
 import re
-from typing import Dict, List, Optional, Sequence, Tuple
+from typing import Dict, List, Optional, Sequence, Set, Tuple
 
 from .flow import Findings, is_bounds_test
 from ..formats.image import TRAPS, Image
-from ..formats.lowering import Linked
+from ..formats.lowering import LinkedFunction
 from ..formats.certificate import Protect
 
 
-def positions_differ(image: Image, functions: Sequence[Linked]) -> List[str]:
+def positions_differ(image: Image, functions: Sequence[LinkedFunction]) -> List[str]:
     """Where the commands that the modules' instructions become aren't those of the image."""
     if len(functions) != len(image.functions):
         return [f"the modules have {len(functions)} functions, the image {len(image.functions)}"]
     total = TRAPS + sum(len(row.kinds) for linked in functions for row in linked.rows)
     for linked in functions:
         for row in linked.rows:
-            given = tuple(command.kind for command in image.commands[row.position : row.position + len(row.kinds)])
+            given = tuple(command.kind
+                          for command in image.commands[row.position : row.position + len(row.kinds)])
             if given != row.kinds:
-                return [f"at position {row.position} the modules have {' '.join(row.kinds)}, the image {' '.join(given)}"]
+                return [f"at position {row.position} the modules have {' '.join(row.kinds)}, the "
+                        f"image {' '.join(given)}"]
     if total != len(image.commands):
         return [f"the modules have {total} commands, the image {len(image.commands)}"]
     return []
@@ -36,7 +39,8 @@ def counts_differ(image: Image, protects: Sequence[Protect], fields: Dict[str, s
     mine = {"functions": len(image.functions), "commands": len(image.commands), "sites": image.sites()}
     told = {name: str(number) for name, number in mine.items()}
     told["protects"] = f"{len(protects)} weight {weight}"
-    return [f"{name}: {told[name]} here, {fields[name]} in the report" for name in told if name in fields and fields[name] != told[name]]
+    return [f"{name}: {told[name]} here, {fields[name]} in the report" for name in told if name in fields
+            and fields[name] != told[name]]
 
 
 def protect_line(protect: Protect) -> str:
@@ -58,7 +62,8 @@ def protects_differ(protects: Sequence[Protect], text: str) -> List[str]:
     return [f"protects: `{first[0]}` here, `{first[1]}` in the report"]
 
 
-CHAIN = re.compile(r"no ((?:parameter \d{1,9} \d{1,9})|(?:(?:global|memory) \d{1,9}))(?: through((?: \d{1,9})+))? end (\d{1,9})")
+CHAIN = re.compile(r"no ((?:parameter \d{1,9} \d{1,9})|(?:(?:global|memory) \d{1,9}))(?: through((?: "
+                   r"\d{1,9})+))? end (\d{1,9})")
 
 
 def chain_of(rest: str) -> Optional[Tuple[str, List[int], int]]:
@@ -72,7 +77,8 @@ def is_chain(found: Findings, declared: str, sites: Sequence[int], end: int) -> 
     commands = found.graph.commands
     if any(place >= len(commands) for place in [*sites, end]):
         return False
-    starts = [origin for origin in found.origins if origin.declared == declared and (origin.position is None or origin.position in sites[:1])]
+    starts = [origin for origin in found.origins if origin.declared == declared
+              and (origin.position is None or origin.position in sites[:1])]
     if not starts:
         return False
     loaded = starts[0].position is not None
@@ -82,7 +88,7 @@ def is_chain(found: Findings, declared: str, sites: Sequence[int], end: int) -> 
     return bool(variables) and ends_there(found, variables, sites, end)
 
 
-def ends_there(found: Findings, variables, sites: Sequence[int], end: int) -> bool:
+def ends_there(found: Findings, variables: Set[int], sites: Sequence[int], end: int) -> bool:
     commands = found.graph.commands
     if any(one.position == end and one.variable in variables for one in found.ends):
         return True
@@ -98,7 +104,8 @@ def verdict_differs(found: Findings, fields: Dict[str, str]) -> List[str]:
     if told is None:
         return ["the report has no line on constant time"]
     if (told == "yes") != found.is_constant_time:
-        return [f"constant-time {'yes' if found.is_constant_time else 'no'} here, {told.partition(' ')[0]} in the report"]
+        return [f"constant-time {'yes' if found.is_constant_time else 'no'} here, "
+                f"{told.partition(' ')[0]} in the report"]
     chain = chain_of(told)
     if told != "yes" and not (chain and is_chain(found, *chain)):
         return [f"the report's chain is none here: {told}"]
@@ -106,7 +113,8 @@ def verdict_differs(found: Findings, fields: Dict[str, str]) -> List[str]:
 
 
 def report_differs(found: Findings, protects: Sequence[Protect], text: Optional[str]) -> List[str]:
-    """Where a report of harden, or the lines of verify, says something else; found has to count nothing as public."""
+    """Where a report of harden, or the lines of verify, says something else; found has to count nothing as
+    public."""
     if text is None:
         return []
     fields = fields_of(text)

@@ -1,4 +1,5 @@
-"""What is refused, as a compiler tells it: a place in a file, a rule, and the way from what is declared secret. Licence: public domain (CC0)."""
+"""What is refused, as a compiler tells it: a place in a file, a rule, and the way from what is declared
+secret. Licence: public domain (CC0)."""
 from __future__ import annotations
 
 from dataclasses import dataclass, field
@@ -31,13 +32,20 @@ class Rule:
 
 
 RULES: Dict[str, Rule] = {
-    CONDITION: Rule("blade-branch", "SecretBranch", "a branch depends on a secret", "compute without a branch: both ways, and a mask that keeps one"),
-    LOAD_ADDRESS: Rule("blade-load", "SecretLoadAddress", "a secret is part of the address of a load", "read all entries, and keep one by a mask"),
-    STORE_ADDRESS: Rule("blade-store", "SecretStoreAddress", "a secret is part of the address of a store", "write all entries, by masks"),
-    DIVISION: Rule("blade-division", "SecretDivision", "a secret is an operand of a division", "divide by a constant, or by multiplications and shifts"),
-    STORED: Rule("blade-public-memory", "SecretInPublicMemory", "a secret is stored to a public memory", "keep it in a memory that is declared secret"),
-    CALLED: Rule("blade-call", "SecretCall", "a secret chooses which function is called", "call functions by their names, or keep the pointer in the ledger"),
-    DEMANDED: Rule("blade-public-demand", "SecretResult", "what has to be public depends on a secret", "drop the demand, or don't make it of the secret"),
+    CONDITION: Rule("blade-branch", "SecretBranch", "a branch depends on a secret",
+                    "compute without a branch: both ways, and a mask that keeps one"),
+    LOAD_ADDRESS: Rule("blade-load", "SecretLoadAddress", "a secret is part of the address of a load",
+                       "read all entries, and keep one by a mask"),
+    STORE_ADDRESS: Rule("blade-store", "SecretStoreAddress", "a secret is part of the address of a store",
+                        "write all entries, by masks"),
+    DIVISION: Rule("blade-division", "SecretDivision", "a secret is an operand of a division",
+                   "divide by a constant, or by multiplications and shifts"),
+    STORED: Rule("blade-public-memory", "SecretInPublicMemory", "a secret is stored to a public memory",
+                 "keep it in a memory that is declared secret"),
+    CALLED: Rule("blade-call", "SecretCall", "a secret chooses which function is called",
+                 "call functions by their names, or keep the pointer in the ledger"),
+    DEMANDED: Rule("blade-public-demand", "SecretResult", "what has to be public depends on a secret",
+                   "drop the demand, or don't make it of the secret"),
 }
 
 
@@ -53,7 +61,8 @@ class Step:
 
 @dataclass
 class Problem:
-    """A refused place: its rule, its line, the way there, and the likely reason. Ends of one rule at one place are one problem."""
+    """A refused place: its rule, its line, the way there, and the likely reason. Ends of one rule at one
+    place are one problem."""
 
     rule: Rule
     line: Line
@@ -70,7 +79,8 @@ class Problem:
 
 @dataclass
 class Source:
-    """A line that loads or declares secrets, how many refused ends they reach, and the likely reason: where to mend first."""
+    """A line that loads or declares secrets, how many refused ends they reach, and the likely reason: where
+    to mend first."""
 
     line: Line
     position: int
@@ -88,12 +98,14 @@ class Told:
     protects: List[Step]
     weights: List[int] = field(default_factory=list)
     sources: List[Source] = field(default_factory=list)
-    shown: Dict[int, str] = field(default_factory=dict)  # by the positions of problems, what a run and a witness show, in place of what is likely
+    # by the positions of problems, what a run and a witness show, in place of what is likely
+    shown: Dict[int, str] = field(default_factory=dict)
     witnessed: Optional[int] = None  # the position of the problem that a witness shows
 
     def also(self, one: Problem) -> str:
         """What is shown of a problem, behind its text."""
-        return f". {self.shown[one.position][0].upper()}{self.shown[one.position][1:]}" if one.position in self.shown else ""
+        return (f". {self.shown[one.position][0].upper()}{self.shown[one.position][1:]}"
+                if one.position in self.shown else "")
 
 
 def rule_of(end: End, instruction: str) -> Rule:
@@ -105,7 +117,8 @@ def rule_of(end: End, instruction: str) -> Rule:
 
 
 def place_of(lines: Lines, position: int, way: Sequence[int] = ()) -> int:
-    """A position with a line of C, for one that has none (in an accessor, or made by the compiler): the last one on the way."""
+    """A position with a line of C, for one that has none (in an accessor, or made by the compiler): the last
+    one on the way."""
     if lines.line(position).number and lines.is_plain(position):
         return position
     return next((site for site in reversed(way) if lines.line(site).number), position)
@@ -131,7 +144,8 @@ def origin_text(origin: Origin, found: Findings, lines: Lines) -> str:
         name = lines.functions[number].name if number < len(lines.functions) else f"function {number}"
         called = parameter_name(lines, number, int(words[2]))
         return f"parameter {called} of {name} is declared secret"
-    return f"{origin.declared} is declared secret" + (": it is loaded here" if origin.position is not None else "")
+    return f"{origin.declared} is declared secret" + (": it is loaded here" if origin.position is not None
+                                                      else "")
 
 
 def declared_at(lines: Lines) -> Dict[str, Line]:
@@ -159,7 +173,8 @@ def steps_of(way: Way, found: Findings, lines: Lines, known: Dict[str, Line]) ->
     line = known.get(way.origin.declared)
     if line is not None and line.number:
         first = steps[0]
-        declaring = Step(line, first.position, origin_text(way.origin._replace(position=None), found, lines), "")
+        declaring = Step(line, first.position, origin_text(way.origin._replace(position=None), found, lines),
+                         "")
         loads = way.origin.position is not None and len(steps) > 1
         steps[:1] = [declaring, first] if loads else [declaring] + ([first] if len(steps) == 1 else [])
         if loads:
@@ -168,11 +183,13 @@ def steps_of(way: Way, found: Findings, lines: Lines, known: Dict[str, Line]) ->
 
 
 def steps_between(way: Way, found: Findings, lines: Lines) -> List[Step]:
-    """The way by lines, from the first one that has the secret to the end; each line once where steps follow one another there."""
+    """The way by lines, from the first one that has the secret to the end; each line once where steps follow
+    one another there."""
     first = way.origin.position
     if first is None:
         words = way.origin.declared.split()
-        first = found.image.functions[int(words[1])].entry if words[0] == "parameter" else way.sites[0] if way.sites else way.end.position
+        first = (found.image.functions[int(words[1])].entry if words[0] == "parameter" else way.sites[0]
+                 if way.sites else way.end.position)
     steps: List[Step] = []
     for position in [first] + way.sites + [way.end.position]:
         line, spot = lines.line(position), lines.spot(position)
@@ -188,7 +205,8 @@ def steps_between(way: Way, found: Findings, lines: Lines) -> List[Step]:
     if len(steps) == 1 or steps[-1].position != way.end.position:
         line, spot = lines.line(way.end.position), lines.spot(way.end.position)
         last = Step(line, way.end.position, "", line.function or (spot.linked.name if spot else ""))
-        if steps[-1].message == "through here" and (steps[-1].line.path, steps[-1].line.number) == (line.path, line.number):
+        if (steps[-1].message == "through here"
+            and (steps[-1].line.path, steps[-1].line.number) == (line.path, line.number)):
             steps.pop()
         steps.append(last)
     steps[-1].message = rule_of(way.end, lines.instruction(way.end.position)).text
@@ -210,7 +228,8 @@ def reasons(found: Findings, lines: Lines, causes: Sequence[Cause]) -> Dict[Orig
 def loaded_at(way: Way, lines: Lines) -> Optional[Step]:
     if way.origin.position is None:
         return None
-    at = next((site for site in [way.origin.position] + way.sites if lines.line(site).number and lines.is_plain(site)), way.origin.position)
+    at = next((site for site in [way.origin.position] + way.sites if lines.line(site).number
+               and lines.is_plain(site)), way.origin.position)
     return Step(lines.line(at), at, "")
 
 
@@ -227,8 +246,10 @@ def told_of(found: Findings, lines: Lines, causes: Sequence[Cause], protects: Se
     """All problems, by file and line."""
     reach = found.graph.reach(found.guilty, found.core)
     ways = [Way(*reach.way(end.variable), end) for end in found.refused if end.variable in reach.depth]
-    entries = [found.image.functions[int(way.origin.declared.split()[1])].entry for way in ways if way.origin.declared.startswith("parameter")]
-    lines.ask({position for way in ways for position in way.sites + [way.end.position]} | set(entries) | {one.position for one in protects})
+    entries = [found.image.functions[int(way.origin.declared.split()[1])].entry
+               for way in ways if way.origin.declared.startswith("parameter")]
+    lines.ask({position for way in ways for position in way.sites + [way.end.position]} | set(entries)
+              | {one.position for one in protects})
     lines.ask({site for one in protects if one.reason for site in (one.reason[0][0], one.reason[1])})
     why = reasons(found, lines, causes)
     known = declared_at(lines)
@@ -237,22 +258,27 @@ def told_of(found: Findings, lines: Lines, causes: Sequence[Cause], protects: Se
         at = place_of(lines, way.end.position, way.sites)
         line, spot = lines.line(at), lines.spot(at)
         rule = rule_of(way.end, lines.instruction(way.end.position))
-        key = (rule.name, line.path, line.number, line.column) if line.number else (rule.name, way.end.position)
+        key = (rule.name, line.path, line.number,
+               line.column) if line.number else (rule.name, way.end.position)
         if key in problems:
             problems[key].ends += 1
             continue
         name = line.function or (spot.linked.name if spot else "")
         problems[key] = Problem(
-            rule, line, way.end.position, name, lines.instruction(way.end.position), steps_of(way, found, lines, known), 1,
-            advice(why.get(way.origin), way, rule), loaded_at(way, lines), spot.linked.module.path if spot else "", spot.row.place if spot else 0)
-    ordered = sorted(problems.values(), key=lambda one: (one.line.path, one.line.number, one.line.column, one.position))
+            rule, line, way.end.position, name, lines.instruction(way.end.position),
+            steps_of(way, found, lines, known), 1, advice(why.get(way.origin), way, rule),
+            loaded_at(way, lines), spot.linked.module.path if spot else "", spot.row.place if spot else 0)
+    ordered = sorted(problems.values(),
+                     key=lambda one: (one.line.path, one.line.number, one.line.column, one.position))
     sources = []
     for cause in causes:
         at = cause.loads[0] if cause.loads else -1
         line = lines.line(at) if at >= 0 else known.get(cause.declared, NOWHERE)
-        told = "what is loaded here" if at >= 0 else origin_text(cause.origins[0], found, lines).replace(" is declared secret", "")
+        told = ("what is loaded here" if at >= 0 else origin_text(cause.origins[0], found,
+                                                                  lines).replace(" is declared secret", ""))
         sources.append(Source(line, at, told, cause.ends, why.get(cause.origins[0])))
-    return Told(found, ordered, [protect_step(one, lines) for one in protects], [one.weight for one in protects], sources)
+    return Told(found, ordered, [protect_step(one, lines) for one in protects],
+                [one.weight for one in protects], sources)
 
 
 def protect_step(protect: Protect, lines: Lines) -> Step:
@@ -260,14 +286,16 @@ def protect_step(protect: Protect, lines: Lines) -> Step:
     text = f"held back until no older branch is open (weight {protect.weight})"
     if protect.reason:
         sites, sink = protect.reason
-        text += f": loaded at {lines.place(sites[0]) or sites[0]}, it would reach {lines.place(sink) or sink} under a wrong guess"
+        text += (f": loaded at {lines.place(sites[0]) or sites[0]}, it would reach "
+                 f"{lines.place(sink) or sink} under a wrong guess")
     return Step(line, protect.position, text, line.function or (spot.linked.name if spot else ""))
 
 
 def spelled(line: Line, otherwise: str) -> str:
     if not line.number:
         return otherwise
-    return f"{shown(line.path)}:{line.number}:{line.column}" if line.column else f"{shown(line.path)}:{line.number}"
+    return (f"{shown(line.path)}:{line.number}:{line.column}" if line.column
+            else f"{shown(line.path)}:{line.number}")
 
 
 def of_text(one: Problem, image: str) -> str:
@@ -278,7 +306,8 @@ def of_text(one: Problem, image: str) -> str:
 
 
 def problem_text(one: Problem) -> str:
-    return one.rule.text + (f" ({one.instruction})" if one.instruction else "") + (f", at {one.ends} places of this line" if one.ends > 1 else "")
+    return one.rule.text + (f" ({one.instruction})" if one.instruction
+                            else "") + (f", at {one.ends} places of this line" if one.ends > 1 else "")
 
 
 def as_text(told: Told, image: str, limit: int, lines: Lines) -> Iterator[str]:
@@ -294,14 +323,16 @@ def as_text(told: Told, image: str, limit: int, lines: Lines) -> Iterator[str]:
         if source.strip():
             yield f" {source}"
             if one.line.column:
-                yield " " + "".join("\t" if letter == "\t" else " " for letter in source[: one.line.column - 1]) + "^"
+                yield " " + "".join("\t" if letter == "\t" else " "
+                                    for letter in source[: one.line.column - 1]) + "^"
         if one.position in told.shown:
             yield f"{where}: note: {told.shown[one.position]}"
         if again:
             # Its way was told with another place.
             continue
         for step in one.steps[:-1]:
-            yield f"{spelled(step.line, f'{image}: position {step.position}')}: note: {step.message}" + (f" [in {step.function}]" if step.function else "")
+            yield f"{spelled(step.line, f'{image}: position {step.position}')}: note: {step.message}" + (
+                f" [in {step.function}]" if step.function else "")
         if one.likely:
             yield f"{where}: note: {one.likely}"
     if len(told.problems) > limit:
@@ -309,8 +340,10 @@ def as_text(told: Told, image: str, limit: int, lines: Lines) -> Iterator[str]:
     if len(told.problems) > MANY:
         yield f"{image}: note: begin with what reaches most of the {len(told.found.refused)} refused ends:"
         for source in told.sources[:MOST_SOURCES]:
-            where = spelled(source.line, f"{image}: position {source.position}" if source.position >= 0 else image)
-            yield f"{where}: note: {source.ends} come of {source.text}" + (f", {source.likely}" if source.likely else "")
+            where = spelled(source.line,
+                            f"{image}: position {source.position}" if source.position >= 0 else image)
+            yield f"{where}: note: {source.ends} come of {source.text}" + (
+                f", {source.likely}" if source.likely else "")
             text = lines.source_as_is(source.line)
             if text.strip():
                 yield f" {text}"

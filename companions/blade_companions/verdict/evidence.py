@@ -1,5 +1,5 @@
-"""What one run from a start shows of the causes of a verdict, and a witness that the program judges again: they take the place of guesses.
-Licence: public domain (CC0)."""
+"""What one run from a start shows of the causes of a verdict, and a witness that the program judges again:
+they take the place of guesses. Licence: public domain (CC0)."""
 from __future__ import annotations
 
 import shlex
@@ -100,12 +100,14 @@ class Evidence:
     witness: Optional[Witness] = None
 
     def numbers(self, ends: Iterable[End], bits: int = -1) -> Tuple[int, int]:
-        """Of some ends how many the run came to, and how many met there what may change, with a mark among some bits."""
+        """Of some ends how many the run came to, and how many met there what may change, with a mark among
+        some bits."""
         met = sum(bool(self.meeting.met.get((end.position, end.variable), 0) & bits) for end in ends)
         return sum(end.position in self.meeting.reached for end in ends), met
 
     def is_witnessed(self, ends: Iterable[End], bits: int = -1) -> bool:
-        """Whether the witness is of one of some ends, and the run, where there is one, doesn't say that it came by another way."""
+        """Whether the witness is of one of some ends, and the run, where there is one, doesn't say that it
+        came by another way."""
         if self.witness is None:
             return False
         ends = [end for end in ends if end.position == self.witness.end(self.found.image)]
@@ -115,16 +117,19 @@ class Evidence:
         return not any(marks) or any(mark & bits for mark in marks)
 
     def text(self, ends: Sequence[End], bits: int = -1, likely: Optional[Guess] = None) -> str:
-        """What is shown of some ends, in place of a guess; nothing where nothing is. What helps goes by the guess, where that isn't of a number."""
+        """What is shown of some ends, in place of a guess; nothing where nothing is. What helps goes by the
+        guess, where that isn't of a number."""
         if self.is_witnessed(ends, bits):
-            return f"leak witnessed: two runs that agree in public are told apart at position {self.witness.position}"
+            return ("leak witnessed: two runs that agree in public are told apart at position "
+                    f"{self.witness.position}")
         if self.meeting is None:
             return ""
         reached, met = self.numbers(ends, bits)
         if met:
             said = "what may change arrives there; blade-witness looks for two runs that show it"
         elif reached:
-            helps = f"{likely.reason}: {likely.remedy}" if likely in (POINTER, SHARED) else "give it as a parameter, or keep it in the ledger"
+            helps = (f"{likely.reason}: {likely.remedy}" if likely in (POINTER, SHARED)
+                     else "give it as a parameter, or keep it in the ledger")
             said = f"looks public, {UNPROVED}; {helps}"
         else:
             said = "this run doesn't come there; give other starts"
@@ -154,33 +159,40 @@ class Evidence:
     def never_loaded(self) -> List[int]:
         """The loads of secret memories that cause something and in this run never loaded what may change."""
         guilty = {origin.position for origin in self.found.guilty}
-        return sorted(position for position, mark in self.meeting.loads.items() if not mark and position in guilty)
+        return sorted(position for position,
+                      mark in self.meeting.loads.items() if not mark and position in guilty)
 
     def not_reached(self) -> List[int]:
         """The refused positions that the run doesn't come to."""
-        return [position for position in dict.fromkeys(end.position for end in self.found.refused) if position not in self.meeting.reached]
+        return [position for position in dict.fromkeys(end.position for end in self.found.refused)
+                if position not in self.meeting.reached]
 
     def tallied(self) -> Tuple[int, int, int]:
-        """How many refused positions there are, how many the run came to, and how many met there what may change."""
+        """How many refused positions there are, how many the run came to, and how many met there what may
+        change."""
         refused: Dict[int, Set[int]] = {}
         for end in self.found.refused:
             refused.setdefault(end.position, set()).add(end.variable)
         reached = [position for position in refused if position in self.meeting.reached]
-        met = sum(any((position, variable) in self.meeting.met for variable in refused[position]) for position in reached)
+        met = sum(any((position, variable) in self.meeting.met for variable in refused[position])
+                  for position in reached)
         return len(refused), len(reached), met
 
     def run_text(self) -> str:
         """How far the run came, and what it met."""
         refused, reached, met = self.tallied()
         part = "" if self.meeting.left else f" in its first {self.meeting.count:,} commands"
-        return f"the run from this start reaches {reached} of {refused} refused ends{part}, and meets at {met} of them what may change"
+        return (f"the run from this start reaches {reached} of {refused} refused ends{part}, and meets at "
+                f"{met} of them what may change")
 
     def still_refused(self, loads: Sequence[int]) -> int:
         """How many ends would be refused, were these loads of public numbers."""
         return len(find(self.found.image, loads).refused)
 
 
-def evidence_of_run(found: Findings, causes: Sequence[Cause], secret: Secret, export: str, most: int) -> Evidence:
+def evidence_of_run(found: Findings, causes: Sequence[Cause], secret: Secret, export: str,
+                    most: int) -> Evidence:
     """What the run from a start shows."""
-    meeting = Meeting(found.image, function_of(found.image, export), secret, [cause.origins for cause in causes]).go(most)
+    meeting = Meeting(found.image, function_of(found.image, export), secret,
+                      [cause.origins for cause in causes]).go(most)
     return Evidence(found, list(causes), meeting)

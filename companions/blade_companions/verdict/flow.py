@@ -1,23 +1,26 @@
-"""Which secrets reach which ends of an image, by the label rules: apart from the program, which stays the judge.
-Licence: public domain (CC0)."""
+"""Which secrets reach which ends of an image, by the label rules: apart from the program, which stays the
+judge. Licence: public domain (CC0)."""
 from __future__ import annotations
 
 from collections import defaultdict
 from dataclasses import dataclass, field
-from typing import Dict, Iterable, List, NamedTuple, Optional, Sequence, Set, Tuple
+from typing import Dict, Iterable, Iterator, List, NamedTuple, Optional, Sequence, Set, Tuple
 
 from ..formats.image import Command, Image
 from ..formats.operators import OUTSIDE
 
 CONDITION, LOAD_ADDRESS, STORE_ADDRESS, DIVISION, STORED, DEMANDED = KINDS = (
-    "condition", "address of a load", "address of a store", "division", "store to a public memory", "demanded public")
+    "condition", "address of a load", "address of a store", "division", "store to a public memory",
+    "demanded public")
 PLURALS = dict(zip(KINDS, (
-    "conditions", "addresses of loads", "addresses of stores", "divisions", "stores to public memories", "demanded public")))
+    "conditions", "addresses of loads", "addresses of stores", "divisions", "stores to public memories",
+    "demanded public")))
 CHUNK = 8192  # so many groups are followed at a time
 
 
 class Origin(NamedTuple):
-    """Where a secret comes from: what declares it, the site that first writes it (none for a parameter or a global), its variable."""
+    """Where a secret comes from: what declares it, the site that first writes it (none for a parameter or a
+    global), its variable."""
 
     declared: str
     position: Optional[int]
@@ -38,14 +41,16 @@ def declared_origins(image: Image) -> List[Origin]:
     for number, function in enumerate(image.functions):
         secret = [index for index, is_secret in enumerate(function.secret_params) if is_secret]
         found += [Origin(f"parameter {number} {index}", None, function.first + index) for index in secret]
-    found += [Origin(f"global {number}", None, number) for number, secret in enumerate(image.secret_globals) if secret]
+    found += [Origin(f"global {number}", None, number) for number,
+              secret in enumerate(image.secret_globals) if secret]
     return found
 
 
 def loaded_origins(image: Image) -> List[Origin]:
     """The loads of memories that are declared secret."""
     secret = image.secret_memories
-    return [Origin(f"memory {command.memory}", position, command.writes) for position, command in enumerate(image.commands)
+    return [Origin(f"memory {command.memory}", position, command.writes) for position,
+            command in enumerate(image.commands)
             if command.kind == "Load" and secret[command.memory]]
 
 
@@ -122,7 +127,8 @@ class Graph:
 
 @dataclass
 class Reach:
-    """Of each variable that is reached: the site that writes it, the variable that this reads, and the origin where it begins there."""
+    """Of each variable that is reached: the site that writes it, the variable that this reads, and the origin
+    where it begins there."""
 
     came: Dict[int, Tuple[Optional[int], Optional[int], Optional[Origin]]]
     depth: Dict[int, int]
@@ -196,7 +202,8 @@ def find(image: Image, public: Sequence[int] = ()) -> Findings:
 
 
 class Components:
-    """The strongly connected components of some variables, those first from which no other one is reached (Tarjan's way, without calls)."""
+    """The strongly connected components of some variables, those first from which no other one is reached
+    (Tarjan's way, without calls)."""
 
     def __init__(self, graph: Graph, core: Set[int]) -> None:
         self.graph, self.core = graph, core
@@ -209,7 +216,7 @@ class Components:
             if start not in self.order:
                 self.visit(start)
 
-    def enter(self, variable: int):
+    def enter(self, variable: int) -> Tuple[int, Iterator[int]]:
         """Numbers a variable, and gives it with the variables that it goes to."""
         self.order[variable] = self.low[variable] = len(self.order)
         self.stack.append(variable)
@@ -261,7 +268,8 @@ class Counter:
         return sum((plane >> bit & 1) << at for at, plane in enumerate(self.planes))
 
 
-def spread(graph: Graph, order: List[List[int]], incoming: Dict[int, int], core: Set[int], asked: Set[int]) -> Dict[int, int]:
+def spread(graph: Graph, order: List[List[int]], incoming: Dict[int, int], core: Set[int],
+           asked: Set[int]) -> Dict[int, int]:
     """Of each variable that is asked for, the bits that reach it from the variables where they begin."""
     mask: Dict[int, int] = {}
     for members in reversed(order):
@@ -270,13 +278,15 @@ def spread(graph: Graph, order: List[List[int]], incoming: Dict[int, int], core:
             bits |= incoming.pop(variable, 0)
         if bits:
             mask.update((variable, bits) for variable in members if variable in asked)
-            for to in {graph.commands[position].writes for variable in members for position in graph.readers.get(variable, ())} & core:
+            for to in {graph.commands[position].writes for variable in members
+                       for position in graph.readers.get(variable, ())} & core:
                 incoming[to] = incoming.get(to, 0) | bits
     return mask
 
 
 def count_ends(found: Findings, groups: Sequence[Sequence[Origin]]) -> Tuple[List[Dict[str, int]], Set[int]]:
-    """Of each group of origins, how many refused ends of each kind it reaches; and the places in the list of those that none reaches."""
+    """Of each group of origins, how many refused ends of each kind it reaches; and the places in the list of
+    those that none reaches."""
     order = Components(found.graph, found.core).found
     counts: List[Dict[str, int]] = []
     missed = set(range(len(found.refused)))
@@ -293,5 +303,6 @@ def count_ends(found: Findings, groups: Sequence[Sequence[Origin]]) -> Tuple[Lis
                 counters[end.kind].add(mask[end.variable])
                 missed.discard(at)
         size = min(CHUNK, len(groups) - first)
-        counts += [{kind: n for kind, one in counters.items() if (n := one.count(bit))} for bit in range(size)]
+        counts += [{kind: n for kind, one in counters.items() if (n := one.count(bit))}
+                   for bit in range(size)]
     return counts, missed

@@ -6,7 +6,7 @@ from collections import defaultdict
 from typing import TYPE_CHECKING, Dict, List, NamedTuple, Optional, Sequence, Set, Tuple
 
 from .flow import DEMANDED, STORED, Findings, Origin
-from ..formats.image import Command
+from ..formats.image import Command, Image
 from ..c.lines import Lines
 
 if TYPE_CHECKING:
@@ -24,17 +24,25 @@ class Guess(NamedTuple):
         return f"likely {self.reason}, since {self.rests}: {self.remedy}"
 
 
-LEDGER = Guess("a public number in a secret memory", "give it as a parameter, or keep it in the ledger: PUB(x), SETPUB(x, v)",
+LEDGER = Guess("a public number in a secret memory",
+               "give it as a parameter, or keep it in the ledger: PUB(x), SETPUB(x, v)",
                "it is loaded from one place and nothing mixes it")
-POINTER = Guess("a function pointer in a secret memory", "call the function directly, or keep the pointer in the ledger", "a call goes by it")
-SHARED = Guess("locals that clang shares between C variables", "wasm-opt -g --untee --ssa before labelling", "a step on the way reads what was written anew")
-LEAK = Guess("a look-up or a branch by a secret", "if what is loaded is secret this is a leak: read all entries, or compute without a branch", "")
-FRAME = Guess("a variable that clang keeps in memory", "compile with -O1 or more", "the function keeps all its parameters in its frame")
+POINTER = Guess("a function pointer in a secret memory",
+                "call the function directly, or keep the pointer in the ledger", "a call goes by it")
+SHARED = Guess("locals that clang shares between C variables", "wasm-opt -g --untee --ssa before labelling",
+               "a step on the way reads what was written anew")
+LEAK = Guess("a look-up or a branch by a secret",
+             "if what is loaded is secret this is a leak: read all entries, or compute without a branch", "")
+FRAME = Guess("a variable that clang keeps in memory", "compile with -O1 or more",
+              "the function keeps all its parameters in its frame")
 SPILL = Guess("a secret that is stored to a public memory",
-              "keep it in a memory that is declared secret; unroll loops over local arrays, inline what takes an address", "it reaches nothing but stores")
-DEMAND = Guess("a result that depends on a secret and is demanded public", "drop the demand, or don't make the result of the secret",
+              "keep it in a memory that is declared secret; unroll loops over local arrays, inline what "
+              "takes an address", "it reaches nothing but stores")
+DEMAND = Guess("a result that depends on a secret and is demanded public",
+               "drop the demand, or don't make the result of the secret",
                "it reaches nothing but the demand")
-# Operators by their codes: those that ciphers mix bits with, those that cut an index out of a word, and those that move an address.
+# Operators by their codes: those that ciphers mix bits with, those that cut an index out of a word, and those
+# that move an address.
 MIXING = frozenset([0x73, 0x77, 0x78, 0x85, 0x89, 0x8A])  # xor, rotl, rotr
 CUTTING = frozenset([0x71, 0x75, 0x76, 0x83, 0x87, 0x88])  # and, shr_s, shr_u
 COPY, MOVING = 0x00, frozenset([0x00, 0x6A, 0x6B])  # as it is, add, sub
@@ -42,7 +50,8 @@ BYTES = frozenset([0x2C, 0x2D, 0x30, 0x31])  # loads of a byte
 WALKED = 100_000  # the most commands that are looked at for one step of a way
 STEPS = 30  # the most steps of a way that are looked at
 BASES = 64  # the most variables that are looked at for an address
-ELEMENT = re.compile(r"(?:\w+(?:->|\.))*\w+\[[^]]*[A-Za-z_]")  # C's text where an element with a variable index is loaded
+# C's text where an element with a variable index is loaded
+ELEMENT = re.compile(r"(?:\w+(?:->|\.))*\w+\[[^]]*[A-Za-z_]")
 LOADS = 3  # so many loads of a cause are looked at
 
 
@@ -65,7 +74,8 @@ class Guesser:
             return SHARED
         shortest = cause.way(next(end for end in cause.reached if end.kind not in (STORED, DEMANDED)))
         load = shortest.origin.position
-        if load is not None and self.is_framed(self.address_of(load)) and self.is_unoptimised(self.image.function_at(load)):
+        if (load is not None and self.is_framed(self.address_of(load))
+            and self.is_unoptimised(self.image.function_at(load))):
             return FRAME
         if self.lines.instruction(shortest.end.position) == "call_indirect":
             return POINTER
@@ -73,7 +83,8 @@ class Guesser:
         return LEAK._replace(rests=why) if why else LEDGER
 
     def why_secret(self, cause: "Cause", way: "Way") -> str:
-        """Why a cause is more like key bytes, or numbers made of them, than like a count or a pointer; empty where it isn't."""
+        """Why a cause is more like key bytes, or numbers made of them, than like a count or a pointer; empty
+        where it isn't."""
         if not way.origin.declared.startswith("memory"):
             return "it is declared secret by itself"
         commands = [self.graph.commands[site] for site in way.sites]
@@ -100,14 +111,16 @@ class Guesser:
         return [self.graph.commands[position] for position in self.graph.writers.get(variable, ())]
 
     def is_framed(self, address: Optional[int]) -> bool:
-        """Whether an address is a fixed place from the stack pointer on, which is the one global that clang makes."""
+        """Whether an address is a fixed place from the stack pointer on, which is the one global that clang
+        makes."""
         seen, work, is_based = {address}, [address] if address is not None else [], False
         for variable in work:
             if variable < len(self.image.secret_globals):
                 is_based = True
                 continue
             commands = self.written_by(variable)
-            if not commands or len(work) > BASES or any(one.kind != "Set" or one.operator not in MOVING for one in commands):
+            if (not commands or len(work) > BASES
+                or any(one.kind != "Set" or one.operator not in MOVING for one in commands)):
                 return False
             new = dict.fromkeys(x for one in commands for x in one.reads if x not in seen)
             seen.update(new)
@@ -119,30 +132,38 @@ class Guesser:
         if function not in self.unoptimised:
             one = self.image.functions[function]
             params = set(range(one.first, one.first + one.params))
-            self.unoptimised[function] = bool(params) and params <= self.stored(self.graph.commands[one.entry : one.entry + one.length])
+            self.unoptimised[function] = (bool(params) and params <= self.stored(
+                self.graph.commands[one.entry : one.entry + one.length]))
         return self.unoptimised[function]
 
     def stored(self, commands: Sequence[Command]) -> Set[int]:
         """The variables that are stored to fixed places of a frame, as they are or by a copy."""
         found: Set[int] = set()
         for command in commands:
-            if command.kind == "Store" and command.sinks and command.operands[1].is_variable and self.is_framed(command.sinks[0]):
+            if (command.kind == "Store" and command.sinks and command.operands[1].is_variable
+                and self.is_framed(command.sinks[0])):
                 value = command.operands[1].value
-                found.update([value], *(one.reads for one in self.written_by(value) if one.kind == "Set" and one.operator == COPY))
+                found.update([value], *(one.reads for one in self.written_by(value) if one.kind == "Set"
+                                        and one.operator == COPY))
         return found
 
     def loop_of(self, position: int) -> Tuple[int, int]:
-        """The first and the last position of the loops round a place, whose code stands together; (0, -1) where there is none."""
+        """The first and the last position of the loops round a place, whose code stands together; (0, -1)
+        where there is none."""
         function = self.image.function_at(position)
         if function not in self.loops:
             one = self.image.functions[function]
-            self.loops[function] = [(to, at) for at in range(one.entry, one.entry + one.length) for to in self.graph.commands[at].targets
-                                    if self.graph.commands[at].kind in ("Test", "Jump") and one.entry <= to <= at]
+            self.loops[function] = [(to, at) for at in range(one.entry, one.entry + one.length)
+                                    for to in self.graph.commands[at].targets
+                                    if self.graph.commands[at].kind in ("Test", "Jump")
+                                    and one.entry <= to <= at]
         round_it = [(first, last) for first, last in self.loops[function] if first <= position <= last]
-        return (min(first for first, _ in round_it), max(last for _, last in round_it)) if round_it else (0, -1)
+        return (min(first for first, _ in round_it),
+                max(last for _, last in round_it)) if round_it else (0, -1)
 
     def is_walked(self, load: int) -> bool:
-        """Whether a load stands in a loop that moves its address: an element of an array, or a limb of a number, and no field of a context."""
+        """Whether a load stands in a loop that moves its address: an element of an array, or a limb of a
+        number, and no field of a context."""
         first, last = self.loop_of(load)
         address = self.address_of(load)
         seen, work = {address}, [address] if last > 0 and address is not None else []
@@ -162,7 +183,8 @@ class Guesser:
 
 
 def is_broken(found: Findings, way: "Way") -> bool:
-    """Whether a step of a way can't be: the variable that a site writes is always written anew before the next one reads it."""
+    """Whether a step of a way can't be: the variable that a site writes is always written anew before the
+    next one reads it."""
     places = (way.sites + [way.end.position])[:STEPS]
     if way.origin.position is None and not enters(found, way.origin, places[0]):
         return True
@@ -170,7 +192,8 @@ def is_broken(found: Findings, way: "Way") -> bool:
 
 
 def enters(found: Findings, origin: Origin, second: int) -> bool:
-    """Whether the value that a function gets for a secret parameter may be what stands in its variable at second."""
+    """Whether the value that a function gets for a secret parameter may be what stands in its variable at
+    second."""
     words = origin.declared.split()
     if words[0] != "parameter" or found.image.function_at(second) != int(words[1]):
         return True
@@ -178,7 +201,8 @@ def enters(found: Findings, origin: Origin, second: int) -> bool:
 
 
 def may_follow(found: Findings, first: int, second: int) -> bool:
-    """Whether what the site at first writes may be what stands in its variable at second, within one function."""
+    """Whether what the site at first writes may be what stands in its variable at second, within one
+    function."""
     image, variable = found.image, found.graph.commands[first].writes
     function = image.function_at(first)
     if function < 0 or function != image.function_at(second) or not is_own(image, function, variable):
@@ -186,7 +210,7 @@ def may_follow(found: Findings, first: int, second: int) -> bool:
     return walk(found, variable, first + 1, second)
 
 
-def is_own(image, function: int, variable: int) -> bool:
+def is_own(image: Image, function: int, variable: int) -> bool:
     """Whether a variable is a local one of the function, which no call changes."""
     defined = image.functions[function]
     index = variable - defined.first
@@ -202,7 +226,8 @@ def walk(found: Findings, variable: int, start: int, goal: int) -> bool:
             if position == goal:
                 return True
             command, left = commands[position], left - 1
-            if command.kind in ("Ret", "Trap") or command.writes == variable and command.kind in ("Set", "Load"):
+            if (command.kind in ("Ret", "Trap") or command.writes == variable
+                and command.kind in ("Set", "Load")):
                 break
             if command.kind == "Test":
                 work.append(command.targets[1])
@@ -211,8 +236,8 @@ def walk(found: Findings, variable: int, start: int, goal: int) -> bool:
 
 
 def settle(causes: Sequence["Cause"], lines: Lines) -> None:
-    """A number that is read at several places gets one answer: that of the places that look secret, since moving a secret to the ledger is worse than
-    keeping a public number."""
+    """A number that is read at several places gets one answer: that of the places that look secret, since
+    moving a secret to the ledger is worse than keeping a public number."""
     named: Dict[str, List["Cause"]] = defaultdict(list)
     for cause in causes:
         name = name_of(cause, lines)
@@ -222,7 +247,8 @@ def settle(causes: Sequence["Cause"], lines: Lines) -> None:
         secret = next((one for one in members if one.likely[0] == LEAK[0]), None)
         for cause in members if secret else []:
             if cause.likely[0] == LEDGER[0]:
-                cause.likely = LEAK._replace(rests=f"{name} is read at {secret.place} too, and there {secret.likely.rests}")
+                cause.likely = LEAK._replace(rests=f"{name} is read at {secret.place} too, and there "
+                                             f"{secret.likely.rests}")
 
 
 def text_at(cause: "Cause", lines: Lines, behind: bool = True) -> str:
@@ -233,7 +259,8 @@ def text_at(cause: "Cause", lines: Lines, behind: bool = True) -> str:
 
 
 def name_of(cause: "Cause", lines: Lines) -> str:
-    """The object of C that is loaded: the word at the place, with what stands before . or -> in front of it; empty of an element."""
+    """The object of C that is loaded: the word at the place, with what stands before . or -> in front of it;
+    empty of an element."""
     text = text_at(cause, lines)
     word, whole = re.match(r"\w+", text), re.search(r"(?:\w+\s*(?:->|\.)\s*)+$", text_at(cause, lines, False))
     behind = text[word.end() :] if word else ""

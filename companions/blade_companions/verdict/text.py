@@ -19,7 +19,8 @@ def counted(number: int, kind: str) -> str:
 
 
 def kinds_text(counts: Dict[str, int]) -> str:
-    return ", ".join(counted(number, kind) for kind, number in sorted(counts.items(), key=lambda one: (-one[1], one[0])))
+    return ", ".join(counted(number, kind) for kind,
+                     number in sorted(counts.items(), key=lambda one: (-one[1], one[0])))
 
 
 def declared_text(found: Findings) -> str:
@@ -29,9 +30,11 @@ def declared_text(found: Findings) -> str:
              (sum(image.secret_memories), "memory", "memories"))
     told = ", ".join(f"{number} {one if number == 1 else many}" for number, one, many in names if number)
     if not told:
-        return "declared secret: nothing. So nothing can leak, and the verdict says nothing: declare the secrets with blade-label"
+        return ("declared secret: nothing. So nothing can leak, and the verdict says nothing: declare the "
+                "secrets with blade-label")
     loads = sum(origin.position is not None for origin in found.origins)
-    return f"declared secret: {told}" + (f"; {counted(loads, 'load')} of secret memories" if sum(image.secret_memories) else "")
+    return f"declared secret: {told}" + (f"; {counted(loads, 'load')} of secret memories"
+                                         if sum(image.secret_memories) else "")
 
 
 def verdict_text(found: Findings, public: Sequence[int], evidence: Optional[Evidence] = None) -> str:
@@ -40,13 +43,15 @@ def verdict_text(found: Findings, public: Sequence[int], evidence: Optional[Evid
         return f"constant-time yes{supposed}: {counted(len(found.ends), 'end')}, none of them refused"
     kinds = Counter(end.kind for end in found.refused)
     witnessed = ", leak witnessed" if evidence and evidence.witness else ""
-    return f"constant-time no{witnessed}{supposed}: {len(found.refused)} of {len(found.ends)} ends are refused: {kinds_text(kinds)}"
+    return (f"constant-time no{witnessed}{supposed}: {len(found.refused)} of {len(found.ends)} ends are "
+            f"refused: {kinds_text(kinds)}")
 
 
 def place_text(lines: Lines, position: int) -> str:
     """A position by its line of C and its instruction, as far as they are known."""
     place, instruction = lines.place(position), lines.instruction(position)
-    return f"{place} ({instruction + ', ' if instruction else ''}position {position})" if place else f"position {position}"
+    return (f"{place} ({instruction + ', ' if instruction else ''}position {position})" if place
+            else f"position {position}")
 
 
 def evidence_text(evidence: Evidence, lines: Lines) -> Iterator[str]:
@@ -54,8 +59,10 @@ def evidence_text(evidence: Evidence, lines: Lines) -> Iterator[str]:
     if evidence.witness:
         witness = evidence.witness
         lines.ask([witness.position])
-        yield f"leak witnessed: {kind_of(evidence.found.image, witness.position)}: {place_text(lines, witness.position)}"
-        yield f"  one run shows `{witness.difference.first}`, the other `{witness.difference.second}`: {witness.words}"
+        yield (f"leak witnessed: {kind_of(evidence.found.image, witness.position)}: "
+               f"{place_text(lines, witness.position)}")
+        yield (f"  one run shows `{witness.difference.first}`, the other "
+               f"`{witness.difference.second}`: {witness.words}")
     if evidence.meeting and evidence.found.refused:
         yield evidence.run_text()
 
@@ -63,9 +70,11 @@ def evidence_text(evidence: Evidence, lines: Lines) -> Iterator[str]:
 def table(causes: Sequence[Cause]) -> Iterator[str]:
     yield "      ends that it reaches (conditions, addresses, others): the line that loads it"
     for number, cause in enumerate(causes, 1):
-        place = cause.place.split(" position ")[0].rsplit(" ", 1)[0] if cause.source and ":" in cause.place else cause.place or cause.declared
+        place = (cause.place.split(" position ")[0].rsplit(" ", 1)[0] if cause.source and ":" in cause.place
+                 else cause.place or cause.declared)
         columns = ", ".join(map(str, cause.columns()))
-        yield f"{number:4} {cause.ends:4} ({columns})  {place}{': ' + cause.source[:WIDE] if cause.source else ''}"
+        yield (f"{number:4} {cause.ends:4} ({columns})  "
+               f"{place}{': ' + cause.source[:WIDE] if cause.source else ''}")
 
 
 def steps_of(way: Way, lines: Lines) -> str:
@@ -78,7 +87,8 @@ def steps_of(way: Way, lines: Lines) -> str:
             steps.append(step)
     if len(steps) > 1:
         return " > ".join(steps[:STEPS] + (["..", steps[-1]] if len(steps) > STEPS else []))
-    return " > ".join(f"{position} {lines.instruction(position)}".strip() for position in way.sites + [way.end.position])
+    return " > ".join(f"{position} {lines.instruction(position)}".strip()
+                      for position in way.sites + [way.end.position])
 
 
 def user_of(way: Way, lines: Lines) -> int:
@@ -102,8 +112,10 @@ def way_text(way: Way, more: int, lines: Lines, shown: str) -> Iterator[str]:
 
 def cause_text(number: int, cause: Cause, ways: int, lines: Lines) -> Iterator[str]:
     loads = [str(position) for position in cause.loads]
-    listed = f" ({counted(len(loads), 'load')}: {','.join(loads[:4])}{',..' if len(loads) > 4 else ''})" if loads else ""
-    yield f"{number:2} {cause.declared}{', ' + cause.place if cause.place else ''}{listed}: {kinds_text(cause.counts)}"
+    listed = (f" ({counted(len(loads), 'load')}: {','.join(loads[:4])}{',..' if len(loads) > 4 else ''})"
+              if loads else "")
+    yield (f"{number:2} {cause.declared}{', ' + cause.place if cause.place else ''}{listed}: "
+           f"{kinds_text(cause.counts)}")
     if cause.source:
         yield f"       {cause.source}"
     if cause.shown or cause.likely:
@@ -133,7 +145,8 @@ def protects_text(protects: Sequence[Protect], found: Findings, lines: Lines, sh
     if len(protects) > shown:
         yield f"  and {len(protects) - shown} lighter ones"
     sums = totals(list(protects), found.image, lines)
-    yield "  by function: " + "; ".join(f"{name} {count}, weight {weight}" for name, count, weight in sums[:20])
+    yield "  by function: " + "; ".join(f"{name} {count}, weight {weight}" for name, count,
+                                        weight in sums[:20])
 
 
 def protect_text(protect: Protect, found: Findings, lines: Lines) -> str:
@@ -147,8 +160,8 @@ def protect_text(protect: Protect, found: Findings, lines: Lines) -> str:
     return f"{text}: loaded at {lines.place(sites[0])} {sites[0]}, would reach {lines.place(sink)} {sink}"
 
 
-def report(found: Findings, causes: Sequence[Cause], protects: Sequence[Protect], lines: Lines, public: Sequence[int],
-           most: int, ways: int, evidence: Optional[Evidence] = None) -> Iterator[str]:
+def report(found: Findings, causes: Sequence[Cause], protects: Sequence[Protect], lines: Lines,
+           public: Sequence[int], most: int, ways: int, evidence: Optional[Evidence] = None) -> Iterator[str]:
     """The whole text."""
     yield declared_text(found)
     yield verdict_text(found, public, evidence)
@@ -158,7 +171,8 @@ def report(found: Findings, causes: Sequence[Cause], protects: Sequence[Protect]
         loads = {origin.position for origin in found.guilty if origin.position is not None}
         total = sum(origin.position is not None for origin in found.origins)
         others = len(found.guilty) - len(loads)
-        told = [f"{len(loads)} of {total} loads of secrets"] * bool(loads) + [counted(others, "declared variable")] * bool(others)
+        told = [f"{len(loads)} of {total} loads of "
+                "secrets"] * bool(loads) + [counted(others, "declared variable")] * bool(others)
         yield f"caused by {' and '.join(told)}, in {counted(len(causes), 'place')}"
         yield ""
         yield from table(causes)

@@ -1,4 +1,5 @@
-"""What a search tries: pairs of secrets on traces, in an order that a seed gives. Each attempt is judged by the program. Licence: public domain (CC0)."""
+"""What a search tries: pairs of secrets on traces, in an order that a seed gives. Each attempt is judged by
+the program. Licence: public domain (CC0)."""
 from __future__ import annotations
 
 import os
@@ -15,12 +16,14 @@ from .program import Outcome, Program
 from ..formats.running import read_start, traced
 from .steering import LINES, Choosing, Recorded, WrongGuesses
 
-AIMED, FEW, PAIRS, WRONG = 24, 8, 40, 8  # pairs at what the run met, pairs at first and in all, traces with wrong guesses
+# pairs at what the run met, pairs at first and in all, traces with wrong guesses
+AIMED, FEW, PAIRS, WRONG = 24, 8, 40, 8
 VALUES = 40  # of a public argument
 
 
 class Attempt(NamedTuple):
-    """Secrets that are compared with a first one: on the trace that predict chooses, on one with wrong guesses, which have numbers, or by whole runs."""
+    """Secrets that are compared with a first one: on the trace that predict chooses, on one with wrong
+    guesses, which have numbers, or by whole runs."""
 
     first: bytes
     others: Tuple[bytes, ...]
@@ -30,8 +33,8 @@ class Attempt(NamedTuple):
 
 
 class Tried(NamedTuple):
-    """What came of an attempt: how many comparisons, the secret that is told apart, the trace's file, its wrong paths, whether it ended before its
-    run; and what whole runs show."""
+    """What came of an attempt: how many comparisons, the secret that is told apart, the trace's file, its
+    wrong paths, whether it ended before its run; and what whole runs show."""
 
     compared: int
     other: Optional[bytes] = None
@@ -73,10 +76,12 @@ class Sought:
         self.given = f"{self.program.folder}/given"
         self.given_cut = self.chosen(self.secret.first, self.given)
         refused = {end.position for end in self.findings.refused}
-        self.choosing = Choosing(self.image, sorted(refused - self.meeting.reached or refused), self.seed, self.forwards)
+        self.choosing = Choosing(self.image, sorted(refused - self.meeting.reached or refused), self.seed,
+                                 self.forwards)
 
     def chosen(self, first: bytes, path: str) -> bool:
-        """Writes a trace without guesses of ours; whether it ends before its run. The buffer of `forward` has less room than that of predict."""
+        """Writes a trace without guesses of ours; whether it ends before its run. The buffer of `forward` has
+        less room than that of predict."""
         if not self.forwards:
             return not self.program.predict(self.text(first), path)
         run = self.recorded(first)
@@ -99,9 +104,11 @@ class Sought:
         return self.first_apart(one, path)._replace(cut=cut)
 
     def first_apart(self, one: Attempt, trace: str) -> Tried:
-        """The first of the secrets that the program tells apart on a trace, which is removed where there is none."""
+        """The first of the secrets that the program tells apart on a trace, which is removed where there is
+        none."""
         for count, other in enumerate(one.others, 1):
-            if self.program.told_apart(trace, self.text(one.first, one.arguments), self.text(other, one.arguments)):
+            if self.program.told_apart(trace, self.text(one.first, one.arguments),
+                                       self.text(other, one.arguments)):
                 return Tried(count, other, trace)
         if trace != self.given:
             os.remove(trace)
@@ -120,7 +127,8 @@ class Sought:
         return self.choosing.of(self.recorded(self.secret.first, arguments), number)
 
     def by_whole_runs(self, one: Attempt) -> Tried:
-        """What whole runs show, though no observer may: secrets in public memories or demanded results, and other ways than the first run's."""
+        """What whole runs show, though no observer may: secrets in public memories or demanded results, and
+        other ways than the first run's."""
         first = self.program.run(self.text(one.first))
         for count, other in enumerate(one.others, 1):
             shown = self.run_differs(first, self.program.run(self.text(other)))
@@ -132,8 +140,10 @@ class Sought:
         """How two whole runs differ, in words."""
         for index in (index for function, index in self.image.demands if function == self.function):
             if first.end == second.end == "returned" and first.results[index] != second.results[index]:
-                return f"result {index}, which is demanded public: {first.results[index]} and {second.results[index]}"
-        for memory, offset in sorted(first.rows.keys() | second.rows.keys()) if "spent" not in (first.end, second.end) else ():
+                return (f"result {index}, which is demanded public: {first.results[index]} and "
+                        f"{second.results[index]}")
+        for memory, offset in sorted(first.rows.keys()
+                                     | second.rows.keys()) if "spent" not in (first.end, second.end) else ():
             one, other = (run.rows.get((memory, offset), "as at first") for run in (first, second))
             if one != other and not self.image.memories[memory].is_secret:
                 return f"memory {memory}, which is public, from byte {offset} on: {one} and {other}"
@@ -166,7 +176,8 @@ class Sought:
             for one, other in islice(pairs, PAIRS - few):
                 yield Attempt(one, (other,))
 
-    def wrong_attempt(self, chance: random.Random, number: int, arguments: Optional[Tuple[int, ...]]) -> Attempt:
+    def wrong_attempt(self, chance: random.Random, number: int,
+                      arguments: Optional[Tuple[int, ...]]) -> Attempt:
         """One on a trace with wrong guesses."""
         first = self.secret.first
         return Attempt(first, (turned(first), drawn(chance, len(first))), number, arguments)
@@ -175,7 +186,8 @@ class Sought:
         """Changes of the bytes that an end meets, those first that none before it met."""
         first, covered = self.secret.first, 0
         changes: Tuple[Callable[[int], int], ...] = (
-            lambda byte: byte ^ 1, lambda byte: byte ^ 0x80, lambda byte: 0, lambda byte: 0xFF, lambda byte: chance.randrange(256))
+            lambda byte: byte ^ 1, lambda byte: byte ^ 0x80, lambda byte: 0, lambda byte: 0xFF,
+            lambda byte: chance.randrange(256))
         for mark in islice(self.meeting.first.values(), 6):
             new = mark & ~covered or mark
             covered |= mark
@@ -187,10 +199,11 @@ class Sought:
                     yield first, bytes(other)
 
     def arguments(self, chance: random.Random) -> Iterator[Tuple[int, ...]]:
-        """Public arguments with which a load would read a secret byte, were its bounds open: by how its address goes with each argument. Then others
-        that are far out."""
+        """Public arguments with which a load would read a secret byte, were its bounds open: by how its
+        address goes with each argument. Then others that are far out."""
         function, given = self.image.functions[self.function], self.secret.start.arguments
-        targets = [self.meeting.bases[one.memory] + one.offset for one in self.secret.ranges if one.memory is not None]
+        targets = [self.meeting.bases[one.memory] + one.offset
+                   for one in self.secret.ranges if one.memory is not None]
         public = [index for index, secret in enumerate(function.secret_params) if not secret]
         first = self.reads(given)
         for index in public:
@@ -227,7 +240,8 @@ class Sought:
         values = list(self.secret.start.arguments)
         aim = chance.choice(targets) if targets else 0
         for index in public:
-            far = (0, 1, 0xFFFFFFFF, 0x7FFFFFFF, 0x80000000, aim, aim // 4, aim - self.meeting.bases[-2], values[index] + 1, values[index] * 2)
+            far = (0, 1, 0xFFFFFFFF, 0x7FFFFFFF, 0x80000000, aim, aim // 4, aim - self.meeting.bases[-2],
+                   values[index] + 1, values[index] * 2)
             if chance.random() < 0.5:
                 values[index] = chance.choice(far) % self.limit(index)
         return tuple(values)

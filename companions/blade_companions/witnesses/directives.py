@@ -1,4 +1,5 @@
-"""Which command each directive of a trace is about, by what the program says was observed. Licence: public domain (CC0)."""
+"""Which command each directive of a trace is about, by what the program says was observed. Licence: public
+domain (CC0)."""
 from __future__ import annotations
 
 from typing import List, NamedTuple, Optional, Sequence, Tuple
@@ -7,7 +8,8 @@ from ..formats.image import Image
 
 
 class Entry(NamedTuple):
-    """An entry of the buffer: its position, what is guessed of a test that isn't executed yet, and where a wrong guess leads back to."""
+    """An entry of the buffer: its position, what is guessed of a test that isn't executed yet, and where a
+    wrong guess leads back to."""
 
     position: int
     guess: Optional[bool]
@@ -53,7 +55,8 @@ class Buffer:
         self.entries.append(Entry(position, guess == "1" if guess else None, other, chain))
 
 
-def last_of(image: Image, function: int, trace: Sequence[str], observed: Sequence[str]) -> Tuple[int, List[Entry]]:
+def last_of(image: Image, function: int, trace: Sequence[str],
+            observed: Sequence[str]) -> Tuple[int, List[Entry]]:
     """The position that the last directive of a trace is about, and the buffer before it."""
     buffer = Buffer(image, function)
     for directive, seen in zip(trace[:-1], observed):

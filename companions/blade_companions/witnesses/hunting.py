@@ -25,17 +25,21 @@ def entry_of(given: str, module: str, path: str) -> Tuple[str, str]:
     name, _, start = given.rpartition("=")
     exports = [told for sort, told in read_module(path).exports if sort == FUNCTION]
     if not name and len(exports) != 1:
-        raise Stop(USAGE, f"blade-cc: error: --start {given}: EXPORT=FILE says which function runs: {', '.join(exports[:8])}")
+        raise Stop(USAGE, f"blade-cc: error: --start {given}: EXPORT=FILE says which function runs: "
+                   f"{', '.join(exports[:8])}")
     return f"{module}/{name or exports[0]}", start
 
 
-def after_no(driver: "Driver", told: Told, lines: Lines, modules: Sequence[str], made: str) -> Tuple[Evidence, List[str]]:
-    """Looks for a witness for some seconds, and follows the run: what that shows, and the words by which blade-explain tells the same."""
+def after_no(driver: "Driver", told: Told, lines: Lines, modules: Sequence[str],
+             made: str) -> Tuple[Evidence, List[str]]:
+    """Looks for a witness for some seconds, and follows the run: what that shows, and the words by which
+    blade-explain tells the same."""
     entry, prefix = entry_of(driver.asked.start, driver.module, modules[-1]), f"{driver.folder}/witness"
     for path in (f"{prefix}.{end}" for end in WRITTEN):
         if os.path.exists(path):
             os.remove(path)
-    words = [os.path.join(HERE, "blade-witness"), f"{made}.img", *entry, *modules, "--seconds", SECONDS, "--out", prefix, "--blade", driver.program]
+    words = [os.path.join(HERE, "blade-witness"), f"{made}.img", *entry, *modules, "--seconds", SECONDS,
+             "--out", prefix, "--blade", driver.program]
     done = driver.runner.run(words)
     if done.status not in (FOUND, *NONE):
         raise Stop(USAGE, f"blade-cc: error: --start {driver.asked.start}: {done.errors.strip()}")
@@ -52,7 +56,8 @@ def after_no(driver: "Driver", told: Told, lines: Lines, modules: Sequence[str],
 def summary(evidence: Evidence, lines: Lines) -> Iterator[str]:
     """The answer to the `no`, in short."""
     if evidence.witness:
-        yield f"leak witnessed at {places([evidence.witness.position], lines)}; again: {evidence.witness.words}"
+        yield (f"leak witnessed at {places([evidence.witness.position], lines)}; again: "
+               f"{evidence.witness.words}")
         return
     yield f"not witnessed in {SECONDS} seconds; {evidence.run_text()}"
     clean, missed = evidence.never_loaded(), evidence.not_reached()

@@ -1,23 +1,25 @@
-"""A run in the order of the program that follows which bytes of its start each value comes of, and where an observer meets one: what one run shows,
-not what is proved. Licence: public domain (CC0)."""
+"""A run in the order of the program that follows which bytes of its start each value comes of, and where an
+observer meets one: what one run shows, not what is proved. Licence: public domain (CC0)."""
 from __future__ import annotations
 
 from typing import Dict, List, Sequence, Set, Tuple
 
 from ..verdict.flow import Origin, demanded_variables
-from ..formats.image import Image, Operand
+from ..formats.image import Command, Image, Operand
 from ..formats.operators import DIVISIONS
 from .pairs import Secret
+from ..formats.running import Step
 from .steering import Recorded
 
 Key = Tuple[int, int]  # a position and a variable, as an end has them
 
 
 class Meeting(Recorded):
-    """A mark of a value is a number: a bit for each byte that may change, and above these one for each cause through whose sites it came since it was
-    loaded. A cause's bit stands with the bits of bytes alone."""
+    """A mark of a value is a number: a bit for each byte that may change, and above these one for each cause
+    through whose sites it came since it was loaded. A cause's bit stands with the bits of bytes alone."""
 
-    def __init__(self, image: Image, function: int, secret: Secret, causes: Sequence[Sequence[Origin]] = ()) -> None:
+    def __init__(self, image: Image, function: int, secret: Secret,
+                 causes: Sequence[Sequence[Origin]] = ()) -> None:
         super().__init__(image, function, secret.start)
         size = len(secret.first)
         self.changed = (1 << size) - 1
@@ -26,7 +28,8 @@ class Meeting(Recorded):
         declared: Dict[int, int] = {}
         for bit, origins in zip(self.causes, causes):
             for origin in origins:
-                to, key = (declared, origin.variable) if origin.position is None else (self.through, origin.position)
+                to, key = (declared,
+                           origin.variable) if origin.position is None else (self.through, origin.position)
                 to[key] = to.get(key, 0) | bit
         self.demanded = demanded_variables(image)
         self.fixed: Dict[int, int] = {}  # marks of globals
@@ -38,8 +41,9 @@ class Meeting(Recorded):
         self.met: Dict[Key, int] = {}  # all that was met
         self.loads: Dict[int, int] = {}  # what each load of a secret memory loaded
         self.count = 0
-        self.ways = {"Set": self.follow_set, "Test": self.follow_test, "Load": self.follow_load, "Store": self.follow_store,
-                     "Arg": self.follow_arg, "Out": self.follow_out, "Call": self.follow_call, "Ret": self.follow_ret}
+        self.ways = {"Set": self.follow_set, "Test": self.follow_test, "Load": self.follow_load,
+                     "Store": self.follow_store, "Arg": self.follow_arg, "Out": self.follow_out,
+                     "Call": self.follow_call, "Ret": self.follow_ret}
         self.begin(image.functions[function].first, secret, declared)
 
     def begin(self, param: int, secret: Secret, declared: Dict[int, int]) -> None:
@@ -50,7 +54,8 @@ class Meeting(Recorded):
                 variable = param + one.offset
                 self.marks[-1][variable] = bits | declared.get(variable, 0)
             else:
-                self.bytes[one.memory].update((one.offset + place, 1 << at + place) for place in range(len(data)))
+                self.bytes[one.memory].update((one.offset + place, 1 << at + place)
+                                              for place in range(len(data)))
 
     def mark(self, operand: Operand) -> int:
         """That of an operand."""
@@ -83,7 +88,7 @@ class Meeting(Recorded):
         self.meet(position, operand[1], mark)
         return mark
 
-    def step(self):
+    def step(self) -> Step:
         command = self.image.commands[self.position]
         self.count += 1
         follow = self.ways.get(command.kind)
@@ -91,30 +96,32 @@ class Meeting(Recorded):
             follow(self.position, command)
         return super().step()
 
-    def follow_set(self, position: int, command) -> None:
+    def follow_set(self, position: int, command: Command) -> None:
         mark = 0
         for operand in command.operands:
             mark |= self.see(position, operand) if command.operator in DIVISIONS else self.mark(operand)
-        self.put(self.fixed if command.writes < self.bound else self.marks[-1], position, command.writes, mark)
+        self.put(self.fixed if command.writes < self.bound else self.marks[-1], position, command.writes,
+                 mark)
 
-    def follow_test(self, position: int, command) -> None:
+    def follow_test(self, position: int, command: Command) -> None:
         self.see(position, command.operands[0])
 
-    def touched(self, command) -> range:
+    def touched(self, command: Command) -> range:
         """The bytes of an access."""
         at = (self.value(command.operands[0]) & 0xFFFFFFFF) + command.offset
         return range(at, at + self.widths[command.operator])
 
-    def follow_load(self, position: int, command) -> None:
+    def follow_load(self, position: int, command: Command) -> None:
         mark, marks = self.see(position, command.operands[0]), self.bytes[command.memory]
         for place in self.touched(command):
             mark |= marks.get(place, 0)
         mark &= self.changed
         if self.image.memories[command.memory].is_secret:
             self.loads[position] = self.loads.get(position, 0) | mark
-        self.put(self.fixed if command.writes < self.bound else self.marks[-1], position, command.writes, mark)
+        self.put(self.fixed if command.writes < self.bound else self.marks[-1], position, command.writes,
+                 mark)
 
-    def follow_store(self, position: int, command) -> None:
+    def follow_store(self, position: int, command: Command) -> None:
         mark = self.see(position, command.operands[0]) | self.mark(command.operands[1])
         if not self.image.memories[command.memory].is_secret:
             self.see(position, command.operands[1])
@@ -125,17 +132,17 @@ class Meeting(Recorded):
             else:
                 marks.pop(place, None)
 
-    def follow_arg(self, position: int, command) -> None:
+    def follow_arg(self, position: int, command: Command) -> None:
         self.put(self.given, position, command.writes, self.mark(command.operands[0]))
 
-    def follow_out(self, position: int, command) -> None:
+    def follow_out(self, position: int, command: Command) -> None:
         self.put(self.marks[-2], position, command.writes, self.mark(command.operands[0]))
 
-    def follow_call(self, _: int, __) -> None:
+    def follow_call(self, _: int, __: Command) -> None:
         self.marks.append(self.given)
         self.given = {}
 
-    def follow_ret(self, _: int, __) -> None:
+    def follow_ret(self, _: int, __: Command) -> None:
         if self.returns:
             self.marks.pop()
 

@@ -1,4 +1,5 @@
-"""Starts that agree in public: what may change in a start file, and ways to change it. Licence: public domain (CC0)."""
+"""Starts that agree in public: what may change in a start file, and ways to change it. Licence: public domain
+(CC0)."""
 from __future__ import annotations
 
 import random
@@ -39,7 +40,8 @@ def places_of(image: Image, ranges: Sequence[Range]) -> Dict[int, Set[int]]:
     """The bytes of each memory in some ranges, which have to be there at first."""
     places: Dict[int, Set[int]] = {}
     for one in ranges:
-        if one.memory >= len(image.memories) or one.offset + one.size > image.memories[one.memory].pages * PAGE:
+        if (one.memory >= len(image.memories)
+            or one.offset + one.size > image.memories[one.memory].pages * PAGE):
             raise Bad(f"{one.memory}:{one.offset}:{one.size}: there are no such bytes at first")
         places.setdefault(one.memory, set()).update(range(one.offset, one.offset + one.size))
     return places
@@ -57,15 +59,20 @@ def joined(memory: int, places: Set[int]) -> Iterator[Range]:
         yield Range(memory, begin, last + 1 - begin)
 
 
-def what_changes(image: Image, function: int, start: Start, asked: Sequence[Range], kept: Sequence[Range]) -> List[Range]:
-    """Secret parameters, and of secret memories the bytes that are asked for, else those that the start file gives; but for what is kept."""
+def what_changes(image: Image, function: int, start: Start, asked: Sequence[Range],
+                 kept: Sequence[Range]) -> List[Range]:
+    """Secret parameters, and of secret memories the bytes that are asked for, else those that the start file
+    gives; but for what is kept."""
     fits(image, function, start)
     for one in asked:
         if one.memory < len(image.memories) and not image.memories[one.memory].is_secret:
-            raise Bad(f"memory {one.memory} isn't declared secret: starts that differ there don't agree in public")
-    given = [Range(number, offset, len(data)) for number, offset, data in start.contents if image.memories[number].is_secret]
+            raise Bad(f"memory {one.memory} isn't declared secret: starts that differ there "
+                      "don't agree in public")
+    given = [Range(number, offset, len(data)) for number, offset,
+             data in start.contents if image.memories[number].is_secret]
     staying = places_of(image, kept)
-    found = [Range(None, index, 8 if is_wide(image, function, index) else 4) for index, secret in enumerate(image.functions[function].secret_params) if secret]
+    found = [Range(None, index, 8 if is_wide(image, function, index) else 4) for index,
+             secret in enumerate(image.functions[function].secret_params) if secret]
     for memory, places in sorted(places_of(image, asked or given).items()):
         found += joined(memory, places - staying.get(memory, set()))
     return found
@@ -96,16 +103,19 @@ class Secret:
                 values[one.offset] = int.from_bytes(data, "little")
             else:
                 lines.append(f"memory {one.memory} {one.offset} {data.hex()}")
-        kept = [f"memory {number} {offset} {data.hex()}" for number, offset, data in self.start.contents if not self.covers(number, offset, len(data))]
+        kept = [f"memory {number} {offset} {data.hex()}" for number, offset,
+                data in self.start.contents if not self.covers(number, offset, len(data))]
         return "\n".join([f"arg {value}" for value in values] + kept + lines) + "\n"
 
     def covers(self, memory: int, offset: int, size: int) -> bool:
-        return any(one.memory == memory and one.offset <= offset and offset + size <= one.offset + one.size for one in self.ranges)
+        return any(one.memory == memory and one.offset <= offset and offset + size <= one.offset + one.size
+                   for one in self.ranges)
 
     def name(self, place: int) -> str:
         """What a byte of the string is."""
         one, at, _ = next(piece for piece in self.pieces(self.first) if place < piece[1] + piece[0].size)
-        return f"parameter {one.offset}" if one.memory is None else f"memory {one.memory}, byte {one.offset + place - at}"
+        return (f"parameter {one.offset}" if one.memory is None
+                else f"memory {one.memory}, byte {one.offset + place - at}")
 
     def pairs(self, chance: random.Random) -> Iterator[Pair]:
         """Pairs of secrets, without end: those with that of the start file first."""
@@ -128,7 +138,8 @@ class Secret:
             yield first, drawn(chance, size)
 
     def alike(self, chance: random.Random) -> Iterator[Pair]:
-        """Pieces of one size made equal, and one byte of one of them changed: what compares them goes further."""
+        """Pieces of one size made equal, and one byte of one of them changed: what compares them goes
+        further."""
         pieces = list(self.pieces(self.first))
         for number, (_, _, data) in enumerate(pieces):
             for _, to, other in pieces[number + 1 :]:

@@ -1,4 +1,5 @@
-"""Calls of blade on one function of an image: the judge of what is found here. Licence: public domain (CC0)."""
+"""Calls of blade on one function of an image: the judge of what is found here. Licence: public domain
+(CC0)."""
 from __future__ import annotations
 
 import os
@@ -15,8 +16,9 @@ STEPS = 100_000_000  # of a run
 
 
 def program_of(asked: Optional[str]) -> str:
-    """The program: that which is asked for, else that of BLADE, else the one of this release or clone, else blade of PATH. A launcher isn't taken by
-    itself: each call would look anew whether the program is up to date."""
+    """The program: that which is asked for, else that of BLADE, else the one of this release or clone, else
+    blade of PATH. A launcher isn't taken by itself: each call would look anew whether the program is up to
+    date."""
     for one in (asked, os.environ.get("BLADE")):
         if one and shutil.which(one):
             return os.path.abspath(one) if os.path.dirname(one) else one
@@ -24,13 +26,15 @@ def program_of(asked: Optional[str]) -> str:
             raise Bad(f"{one} is no program")
     found = ready_program() or ("blade" if shutil.which("blade") else None)
     if found is None:
-        raise Bad("there is no blade that is built: run ./blade once, or give one by --blade PROGRAM or BLADE")
+        raise Bad("there is no blade that is built: run ./blade once, or give one by "
+                  "--blade PROGRAM or BLADE")
     return found
 
 
 @dataclass
 class Difference:
-    """Where two runs are told apart: the directive, from 1; what each shows there; what both showed before."""
+    """Where two runs are told apart: the directive, from 1; what each shows there; what both showed
+    before."""
 
     directive: int
     first: str
@@ -39,7 +43,8 @@ class Difference:
 
 
 class Outcome(NamedTuple):
-    """How a run ended, what it gave, the rows of memories that it changed, and how often it executed each site."""
+    """How a run ended, what it gave, the rows of memories that it changed, and how often it executed each
+    site."""
 
     end: str
     results: List[str]
@@ -64,7 +69,8 @@ class Program:
 
     def call(self, words: Sequence[str], expected: Sequence[int], keep: bool = True) -> Tuple[int, str]:
         """The status, which is an expected one, and the text where it is kept."""
-        done = subprocess.run([self.path, *words], stdout=subprocess.PIPE if keep else subprocess.DEVNULL, stderr=subprocess.PIPE, check=False)
+        done = subprocess.run([self.path, *words], stdout=subprocess.PIPE if keep else subprocess.DEVNULL,
+                              stderr=subprocess.PIPE, check=False)
         text = (done.stdout or b"").decode("utf-8", "replace")
         if done.returncode not in expected:
             said = text.strip().split("\n")[-1] or done.stderr.decode("utf-8", "replace").strip()[-200:]
@@ -78,10 +84,12 @@ class Program:
 
     def judged(self, trace: str, first: str, second: str) -> List[str]:
         """The words of a judgement on a trace, which is the path of a file, and two starts."""
-        return [self.judge, self.image, self.export, trace, self.file("first", first), self.file("second", second)]
+        return [self.judge, self.image, self.export, trace, self.file("first", first),
+                self.file("second", second)]
 
     def told_apart(self, trace: str, first: str, second: str) -> bool:
-        """Whether a judgement ends with 1. The starts agree in public, since nothing else changes; the last judgement reads that, too."""
+        """Whether a judgement ends with 1. The starts agree in public, since nothing else changes; the last
+        judgement reads that, too."""
         return self.call(self.judged(trace, first, second), (ALIKE, DIFFER, STUCK), False)[0] == DIFFER
 
     def compared(self, trace: str, first: str, second: str) -> Optional[Difference]:
@@ -97,7 +105,8 @@ class Program:
     def run(self, start: str) -> Outcome:
         """A whole run."""
         path = f"{self.folder}/counts"
-        words = ["run", self.image, self.export, self.file("first", start), "--steps", str(STEPS), "--counts", path]
+        words = ["run", self.image, self.export, self.file("first", start), "--steps", str(STEPS), "--counts",
+                 path]
         text = self.call(words, (ALIKE, TRAPPED, SPENT))[1]
         with open(path, encoding="ascii") as file:
             counted = [line.split() for line in file.read().splitlines()[1:]]

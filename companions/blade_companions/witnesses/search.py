@@ -1,4 +1,5 @@
-"""A search: attempts side by side on all processors, and the first in their order that the program tells apart. Licence: public domain (CC0)."""
+"""A search: attempts side by side on all processors, and the first in their order that the program tells
+apart. Licence: public domain (CC0)."""
 from __future__ import annotations
 
 import multiprocessing
@@ -71,7 +72,8 @@ class Progress:
             self.last = now
             line = f"blade-witness: {self.done.text()}, {self.spent():.0f} s of {self.seconds:.0f}"
             self.wide = max(self.wide, len(line))
-            print(f"\r{line.ljust(self.wide)}" if terminal else line, end="" if terminal else "\n", file=sys.stderr, flush=True)
+            print(f"\r{line.ljust(self.wide)}" if terminal else line, end="" if terminal else "\n",
+                  file=sys.stderr, flush=True)
 
     def end(self) -> None:
         if self.wide and sys.stderr.isatty():
@@ -133,7 +135,8 @@ def in_order(sought: Sought, progress: Progress) -> Iterator[Tuple[Attempt, Trie
     attempts, children = enumerate(sought.attempts()), deque()
     try:
         while True:
-            children.extend(Child(sought, one, number) for number, one in islice(attempts, ahead - len(children)))
+            children.extend(Child(sought, one, number) for number,
+                            one in islice(attempts, ahead - len(children)))
             if not children:
                 return
             yield children[0].attempt, children[0].result(progress)
@@ -145,7 +148,8 @@ def in_order(sought: Sought, progress: Progress) -> Iterator[Tuple[Attempt, Trie
 
 @dataclass
 class Searched:
-    """What a search found: the attempt that tells two runs apart, else one by which whole runs show a secret, if any."""
+    """What a search found: the attempt that tells two runs apart, else one by which whole runs show a secret,
+    if any."""
 
     done: Done
     found: Optional[Tuple[Attempt, Tried]] = None
@@ -153,7 +157,8 @@ class Searched:
 
 
 def search(sought: Sought, seconds: float) -> Searched:
-    """The first attempt that is told apart is the answer. Neither the processors nor the seconds change which one that is: time only ends the search."""
+    """The first attempt that is told apart is the answer. Neither the processors nor the seconds change which
+    one that is: time only ends the search."""
     done = Done()
     progress, searched = Progress(done, seconds), Searched(done)
     try:

@@ -1,5 +1,5 @@
-"""What a search found, made small: fewer changed bytes, fewer wrong paths, a shorter trace, as long as the program tells the runs apart.
-Licence: public domain (CC0)."""
+"""What a search found, made small: fewer changed bytes, fewer wrong paths, a shorter trace, as long as the
+program tells the runs apart. Licence: public domain (CC0)."""
 from __future__ import annotations
 
 from dataclasses import dataclass
@@ -43,7 +43,8 @@ class Shrinking:
         self.found = Found(attempt.first, tried.other, attempt.arguments, trace, difference)
         self.cut()
 
-    def apart(self, trace: Sequence[str], first: bytes, second: bytes, arguments: Optional[Sequence[int]]) -> Optional[Difference]:
+    def apart(self, trace: Sequence[str], first: bytes, second: bytes,
+              arguments: Optional[Sequence[int]]) -> Optional[Difference]:
         """Where the program tells two secrets apart on a trace."""
         sought = self.sought
         path = sought.program.file("shrinking", "\n".join(trace) + "\n")
@@ -79,7 +80,8 @@ class Shrinking:
         return difference is not None
 
     def last_path_alone(self) -> None:
-        """Leaves out all wrong paths but the last: each begins and ends with an empty buffer, and then the run goes on where its test leads."""
+        """Leaves out all wrong paths but the last: each begins and ends with an empty buffer, and then the
+        run goes on where its test leads."""
         trace, kept, at = self.found.trace, [], 0
         for begin, end in self.paths:
             if end >= len(trace):
@@ -89,7 +91,8 @@ class Shrinking:
         self.try_trace(kept + trace[at:])
 
     def changed(self) -> List[int]:
-        return [place for place in range(len(self.found.first)) if self.found.first[place] != self.found.second[place]]
+        return [place for place in range(len(self.found.first))
+                if self.found.first[place] != self.found.second[place]]
 
     def fewer_bytes(self) -> None:
         """Leaves out parts of the changed bytes, and ever smaller ones."""
@@ -123,15 +126,19 @@ class Shrinking:
 
 
 def open_guesses(sought: Sought, found: Found) -> Tuple[int, List[Entry], List[Entry]]:
-    """The position where the runs are told apart; and of the older guesses that are open there those that are wrong, and those whose conditions have
-    no value yet. The first run tells: it executes them, the youngest first, in place of the last directive."""
+    """The position where the runs are told apart; and of the older guesses that are open there those that are
+    wrong, and those whose conditions have no value yet. The first run tells: it executes them, the youngest
+    first, in place of the last directive."""
     position, entries = last_of(sought.image, sought.function, found.trace, found.difference.common)
     word, _, rest = found.trace[-1].partition(" ")
-    asked = [number for number in range(int(rest) if word == "exec" else 0) if entries[number].guess is not None][::-1]
+    asked = [number for number in range(int(rest) if word == "exec" else 0)
+             if entries[number].guess is not None][::-1]
     waiting: List[int] = []
     while True:
-        path = sought.program.file("asked", "\n".join(found.trace[:-1] + [f"exec {number}" for number in asked]) + "\n")
-        told = sought.program.observed(path, sought.text(found.first, found.arguments))[len(found.trace) - 1 :]
+        path = sought.program.file(
+            "asked", "\n".join(found.trace[:-1] + [f"exec {number}" for number in asked]) + "\n")
+        told = sought.program.observed(path,
+                                       sought.text(found.first, found.arguments))[len(found.trace) - 1 :]
         stuck = next((number for number, seen in zip(asked, told) if seen.startswith("stuck")), None)
         if stuck is None:
             wrong = [number for number, seen in zip(asked, told) if seen.startswith("rollback")]

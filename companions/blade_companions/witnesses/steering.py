@@ -68,7 +68,8 @@ class Recorded(Run):
 
 
 class Choices(NamedTuple):
-    """How wrong paths guess: by chance, by distances to goals, and which inner test against its condition (from 1; 0 for none)."""
+    """How wrong paths guess: by chance, by distances to goals, and which inner test against its condition
+    (from 1; 0 for none)."""
 
     chance: random.Random
     away: Dict[int, int]
@@ -76,7 +77,8 @@ class Choices(NamedTuple):
     forwards: bool
 
     def guess(self, targets: Sequence[int], known: Optional[int], number: int) -> bool:
-        """Whether the condition of a test is guessed to hold; known is its value, number counts the inner tests whose values are known."""
+        """Whether the condition of a test is guessed to hold; known is its value, number counts the inner
+        tests whose values are known."""
         yes, no = (self.away.get(to, FAR) for to in targets)
         if self.away and yes != no and self.chance.random() < TOWARDS:
             return yes < no
@@ -86,7 +88,8 @@ class Choices(NamedTuple):
 
 
 class WrongPath:
-    """What is fetched on a wrong path, and executed as soon as it can be. None is a value that isn't known there."""
+    """What is fetched on a wrong path, and executed as soon as it can be. None is a value that isn't known
+    there."""
 
     def __init__(self, run: Recorded, position: int, choices: Choices) -> None:
         self.run, self.position, self.choices = run, position, choices
@@ -224,7 +227,8 @@ class WrongPath:
 
 
 class WrongGuesses:
-    """A run in the order of the program, with wrong paths before its tests, each of which ends with an empty buffer."""
+    """A run in the order of the program, with wrong paths before its tests, each of which ends with an empty
+    buffer."""
 
     def __init__(self, run: Recorded, choices: Choices, each: int) -> None:
         self.run, self.choices, self.each = run, choices, each
@@ -238,7 +242,8 @@ class WrongGuesses:
         wrong, away = command.targets[1 if taken else 0], self.choices.away
         if self.times[position] >= self.each or wrong < TRAPS or (away and away.get(wrong, FAR) >= ROOM):
             return False
-        path = WrongPath(self.run, wrong, self.choices._replace(turn=(self.choices.turn + self.times[position]) % TURNS))
+        path = WrongPath(self.run, wrong,
+                         self.choices._replace(turn=(self.choices.turn + self.times[position]) % TURNS))
         self.times[position] += 1
         first = len(self.lines)
         self.lines += [f"fetch {int(not taken)}", *path.go(), "exec 0", "retire"]
@@ -273,8 +278,8 @@ class WrongGuesses:
             return
         _, access, _ = next(steps, (0, None, None))
         if access is not None:
-            self.lines += ("fetch", "fetch 0", "fetch", "exec 2", "exec 0", *freed(0, bounds), "exec 1", *freed(2, access),
-                           "retire", "retire", "retire")
+            self.lines += ("fetch", "fetch 0", "fetch", "exec 2", "exec 0", *freed(0, bounds), "exec 1",
+                           *freed(2, access), "retire", "retire", "retire")
 
 
 class Choosing:
@@ -286,5 +291,6 @@ class Choosing:
 
     def of(self, run: Recorded, number: int) -> WrongGuesses:
         """Every second one goes towards the goals."""
-        choices = Choices(random.Random(f"{self.seed} {number}"), self.away if number % 2 else {}, number, self.forwards)
+        choices = Choices(random.Random(f"{self.seed} {number}"), self.away if number % 2 else {}, number,
+                          self.forwards)
         return WrongGuesses(run, choices, 2 + number // 2)

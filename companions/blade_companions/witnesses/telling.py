@@ -30,11 +30,14 @@ def what_differs(secret: Secret, first: bytes, second: bytes) -> Iterator[str]:
         if mine == other:
             continue
         if one.memory is None:
-            yield f"parameter {one.offset}: {int.from_bytes(mine, 'little')} and {int.from_bytes(other, 'little')}"
+            yield (f"parameter {one.offset}: {int.from_bytes(mine, 'little')} and "
+                   f"{int.from_bytes(other, 'little')}")
             continue
         places = [place for place in range(one.size) if mine[place] != other[place]]
-        few = "; ".join(f"byte {one.offset + place}: {mine[place]:02x} and {other[place]:02x}" for place in places[:BYTES])
-        more = f"; and {len(places) - BYTES} more up to byte {one.offset + places[-1]}" if len(places) > BYTES else ""
+        few = "; ".join(f"byte {one.offset + place}: {mine[place]:02x} and {other[place]:02x}"
+                        for place in places[:BYTES])
+        more = (f"; and {len(places) - BYTES} more up to byte {one.offset + places[-1]}"
+                if len(places) > BYTES else "")
         yield f"memory {one.memory}, {few}{more}"
 
 
@@ -56,9 +59,11 @@ def not_refused(findings: Findings, found: Found, position: int) -> Iterator[str
     if end_at(findings.image, position) in {end.position for end in findings.refused}:
         return
     if found.plain:
-        yield "  the labels don't refuse this end, but a store to a public memory before it: what is loaded there again counts as public"
+        yield ("  the labels don't refuse this end, but a store to a public memory before it: what is loaded "
+               "there again counts as public")
     else:
-        yield "  the labels don't refuse this end: they speak of no wrong guess, of which protects keep what is loaded"
+        yield ("  the labels don't refuse this end: they speak of no wrong guess, of which "
+               "protects keep what is loaded")
 
 
 def witnessed(sought: Sought, found: Found, position: int, lines: Lines) -> Iterator[str]:
@@ -72,21 +77,24 @@ def witnessed(sought: Sought, found: Found, position: int, lines: Lines) -> Iter
     if found.arguments:
         yield f"  arguments of both: {' '.join(map(str, found.arguments))}"
     difference = found.difference
-    yield f"  at directive {difference.directive}, {found.trace[-1]}: one run shows `{difference.first}`, the other `{difference.second}`"
+    yield (f"  at directive {difference.directive}, {found.trace[-1]}: one run shows `{difference.first}`, "
+           f"the other `{difference.second}`")
     yield f"  {guess_text(sought, found, lines)}"
     yield from not_refused(sought.findings, found, position)
 
 
 def again(judge: str, image: str, export: str, prefix: str) -> str:
     """The command by which anybody replays a witness."""
-    return shlex.join(["blade", judge, image, export, *(f"{prefix}.{end}" for end in ("trace", "a.start", "b.start"))])
+    return shlex.join(["blade", judge, image, export,
+                       *(f"{prefix}.{end}" for end in ("trace", "a.start", "b.start"))])
 
 
 def runs_again(image: str, export: str, prefix: str, counted: bool) -> str:
     """That by which anybody compares whole runs."""
     image, export, name = shlex.quote(image), shlex.quote(export), shlex.quote(prefix)
     words = f"blade run {image} {export} {name}.$s.start --steps {STEPS}"
-    return f"for s in a b; do {words}{f' --counts {name}.$s.counts' if counted else ''}; done" + (f"; diff {name}.a.counts {name}.b.counts" if counted else "")
+    return f"for s in a b; do {words}{f' --counts {name}.$s.counts' if counted else ''}; done" + (
+        f"; diff {name}.a.counts {name}.b.counts" if counted else "")
 
 
 def places(positions: List[int], lines: Lines) -> str:
@@ -106,7 +114,8 @@ def of_the_run(evidence: Evidence, lines: Lines) -> Iterator[str]:
     if clean:
         left = evidence.still_refused(clean)
         said = f"{left} ends would still be refused" if left else "none would be refused"
-        yield f"  looks public, {UNPROVED}: these lines never loaded what was changed; were it public, {said}: {places(clean, lines)}"
+        yield (f"  looks public, {UNPROVED}: these lines never loaded what was changed; were it public, "
+               f"{said}: {places(clean, lines)}")
         yield f"    (blade-explain --public {','.join(map(str, clean))})"
     missed = evidence.not_reached()
     if missed:
