@@ -13,6 +13,7 @@ WORDS are clang's and, behind -Wl, wasm-ld's. Besides:
     --counts [EXPORT=]START  sets protects by the counts of a run from a start file; may be given again
     --start [EXPORT=]START   after a no, looks for two runs from a start file that show the leak, for ten seconds (blade-witness)
     --unlabelled             nothing is declared secret, and that is meant
+    --native                 also writes OUT/native/ (NAME.blade/native/): NAME.c, NAME.h and NAME.o for this machine, if the verdict is yes (blade-native)
     --no-fail                status 0 where the verdict is no, and what is made is kept all the same
     --limit N                at most so many warnings (20)
     --name NAME              the module's name (that of OUT.wasm, or of the only file)
@@ -51,6 +52,7 @@ from .c.declarations import NOTHING, left_out, with_source
 from .c.sources import Sources
 from .c.tools import HERE, INCLUDE, Ran, Runner, found, program, written_to
 from .formats.module import FUNCTION, Module, module_of, read_module
+from .native.making import files_of, native_of
 from .printing import say
 
 STEPS = "4000000000"  # the most of a run that is counted
@@ -82,7 +84,8 @@ class Driver:
     def clear(self) -> None:
         """What an earlier call wrote says nothing of this one, and make would take it for made."""
         reports = [f"{self.module}.sarif", "report.txt", "verify.txt", "problems.json"]
-        for path in [f"{self.folder}/{name}" for name in self.made() + reports] + [f"{self.aside}/{name}" for name in self.made()] + [self.file]:
+        native = files_of(f"{self.folder}/native", self.module)
+        for path in [f"{self.folder}/{name}" for name in self.made() + reports] + [f"{self.aside}/{name}" for name in self.made()] + [*native, self.file]:
             if path and os.path.exists(path):
                 os.remove(path)
         for folder in (f"{self.folder}/build", self.aside):
@@ -197,6 +200,8 @@ class Driver:
         if self.asked.start and not is_yes:
             evidence, self.explained_by = after_no(self, told, lines, modules, f"{place}/{self.module}")
         self.tell(told, lines, modules, f"{place}/{self.module}")
+        if self.asked.native and is_yes and native_of(self.program, f"{place}/{self.module}", modules, f"{self.folder}/native", found("clang")):
+            raise Stop(BUILD, f"blade-cc: error: {self.module}: blade-native doesn't make an object of it")
         if is_kept and self.file:
             written_to(self.file, read_file(modules[-1], "module"))
         protects = next(line for line in report.splitlines() if line.startswith("protects "))

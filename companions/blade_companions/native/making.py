@@ -118,21 +118,20 @@ def makes(image: Image, how: Building, output: str) -> int:
     return DONE
 
 
-def native_of(
-    program: Optional[str],
-    image: str,
-    certificate: str,
-    modules: Iterable[str],
-    folder: str,
-    how: Building = Building(),
-) -> int:
-    """NAME.c, NAME.h, NAME.o and the libraries of an image NAME.img that blade verifies, in a folder. The
-    status of blade-native."""
-    fault = why_not(program, image, certificate)
+def files_of(folder: str, name: str) -> List[str]:
+    """All files that `native_of` may make of a module of this name."""
+    output = os.path.join(folder, f"{prefix_of(name)}.c")
+    return [output, f"{output[:-2]}.h", *made_of(output)]
+
+
+def native_of(program: str, stem: str, modules: Iterable[str], folder: str, compiler: str) -> int:
+    """NAME.c, NAME.h and NAME.o of the image STEM.img with its certificate STEM.json, in a folder. The status
+    of blade-native."""
+    fault = why_not(program, f"{stem}.img", f"{stem}.json")
     if fault:
         say(f"blade-native: {fault}", sys.stderr)
         return NO
-    output = os.path.join(folder, f"{prefix_of(image)}.c")
-    found = Image.at(image, modules)
-    write(found, output, YES)
-    return makes(found, how, output)
+    os.makedirs(folder, exist_ok=True)
+    output, image = files_of(folder, os.path.basename(stem))[0], Image.at(f"{stem}.img", modules)
+    write(image, output, YES)
+    return makes(image, Building(compiler), output)

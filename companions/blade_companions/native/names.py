@@ -46,9 +46,9 @@ def prefix_of(path: str) -> str:
 
 
 def without_module(names: List[bytes]) -> List[bytes]:
-    """Names without their module, where all have the same one."""
-    modules = {name.partition(b"/")[0] for name in names}
-    return [name.partition(b"/")[2] for name in names] if len(modules) == 1 else names
+    """Names without their module, if they differ without it."""
+    short = [name.partition(b"/")[2] for name in names]
+    return short if len(set(short)) == len(names) else names
 
 
 def export_names(exports: List[Tuple[bytes, int]]) -> List[Tuple[str, int, str]]:

@@ -7,7 +7,7 @@ from __future__ import annotations
 
 from typing import Dict, NamedTuple, Tuple
 
-from ..formats.lowering import ACCESS_NAMES, OPERATORS
+from ..formats.operators import ACCESS_NAMES, OPERATORS
 from formats.read import MOVE, OUTSIDE, SELECT
 
 from .reading import I32, I64

@@ -7,7 +7,7 @@ from typing import Dict, List, Sequence
 from ..c.dwarf import subprograms
 from ..c.lines import Lines
 from ..formats.image import read_image
-from ..formats.lowering import Linked, lower
+from ..formats.lowering import LinkedFunction, lower
 from ..formats.module import Module, read_module
 from ..formats.reading import Bad
 from ..verdict.compare import positions_differ
@@ -18,7 +18,7 @@ class Origin:
     """The modules of an image. Modules that would be lowered to other commands are refused."""
 
     def __init__(self, data: bytes, paths: Sequence[str]) -> None:
-        self.functions: List[Linked] = lower([read_module(path) for path in paths]) if paths else []
+        self.functions: List[LinkedFunction] = lower([read_module(path) for path in paths]) if paths else []
         differ = positions_differ(read_image(data), self.functions) if paths else []
         if differ:
             raise Bad(f"the image wasn't made from this module: {differ[0]}")

@@ -9,7 +9,7 @@ from dataclasses import dataclass
 from typing import Dict, List, Set, Tuple
 
 from ..formats.image import read_image, read_memory
-from ..formats.lowering import ACCESS_NAMES
+from ..formats.operators import ACCESS_NAMES
 from ..formats.reading import Bad, Reader, read_file
 from formats.read import CALL, LOAD, SET, Function, Program, Refused, Rules, spread
 

@@ -201,6 +201,23 @@ class Command(unittest.TestCase):
         self.assertEqual(status, 3)
         self.assertIn("the image wasn't made from this module", printed)
 
+    @unittest.skipUnless(shutil.which("wasm-opt"), "the tools of blade-cc aren't installed")
+    def test_from_c(self):
+        """blade-cc writes the header and the object after a yes; what they were made from is judged again."""
+        out, source = self.path("out"), self.path("add.c")
+        words = [f"{TOP}/companions/blade-cc", source, "--label", "secret-param add 0", "--native", "-o", f"{out}/"]
+        made = f"{out}/native"
+        for text, status, files in (
+            ("unsigned add(unsigned key, unsigned size) { return key + size; }", 0, ["add.c", "add.h", "add.o"]),
+            ("unsigned add(unsigned key, unsigned size) { return key ? size : size / key; }", 1, []),
+        ):
+            self.path("add.c", text.encode() + b"\n")
+            done = subprocess.run([*words, "--export", "add"], capture_output=True, text=True, check=False)
+            self.assertEqual((done.returncode, sorted(os.listdir(made))), (status, files), done.stderr)
+            if files:
+                with open(f"{made}/add.h", encoding="ascii") as file:
+                    self.assertIn("add_end add_add(add *m, uint32_t key, uint32_t size, uint32_t *r0);", file.read())
+
     # ---- memcheck
 
     @unittest.skipUnless(shutil.which("valgrind"), "valgrind isn't installed")
