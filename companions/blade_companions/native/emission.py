@@ -103,7 +103,7 @@ class Emission:
         """The head of a function in C."""
         words = ["instance *const m"] + ["uint32_t depth"] * self.counts_depth
         words += [f"{self.type_of(variable)} v{variable}" for variable in self.parameters(number)]
-        kept = "__attribute__((noinline)) " if number in self.exported else ""
+        kept = "__attribute__((noinline, used)) " if number in self.exported else ""
         return f"static {kept}{self.returned(number)} f{number}({', '.join(words)})"
 
     def declarations(self) -> List[str]:

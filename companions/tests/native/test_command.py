@@ -209,7 +209,7 @@ class Command(unittest.TestCase):
         made = f"{out}/native"
         for text, status, files in (
             ("unsigned add(unsigned key, unsigned size) { return key + size; }", 0, ["add.c", "add.h", "add.o"]),
-            ("unsigned add(unsigned key, unsigned size) { return key ? size : size / key; }", 1, []),
+            ("unsigned add(unsigned key, unsigned size) { return size % key; }", 1, []),
         ):
             self.path("add.c", text.encode() + b"\n")
             done = subprocess.run([*words, "--export", "add"], capture_output=True, text=True, check=False)
