@@ -117,6 +117,28 @@ class Runs(unittest.TestCase):
         native.function("reset")(ctypes.c_void_p(instance))
         self.assertEqual(native.call(instance, b"t/f1", [65536])[0], 4)
 
+    def test_a_memory_without_pages(self):
+        """Each access to it traps, also that of no address at all, until it has grown."""
+        reads = bounded(16, 6, 0, (LOAD, 0, 0x2D, 0, 7, 0, 4), 1) + [(OUT, 0, 0, 7), (RET,)]
+        native = self.native(image([growth(0, 1, 7), Function([I32], [I32], 4, reads)], memories=[(0, 1)]))
+        self.assertTrue(self.same(native, "t/f1", "arg 0\n").startswith("trapped out of bounds"))
+        self.assertTrue(self.same(native, "t/f0", "arg 1\n").startswith("returned i32 0\nmemory 0 pages 1"))
+        never = self.native(image([Function([I32], [], 1, [(RET,)])], memories=[(0, 0)]))
+        self.assertEqual(self.same(never, "t/f0", "arg 0\n"), "returned\nmemory 0 pages 0\n")
+        instance = never.function("new")()
+        self.assertEqual([never.write(instance, 0, 0, contents) for contents in (b"", b"x")], [1, 0])
+        never.function("free")(ctypes.c_void_p(instance))
+
+    def test_a_memory_of_256_pages(self):
+        """The last bytes of the largest memory are there, and nothing behind them."""
+        last = 256 * 65536 - 4
+        stores = bounded(7, 2, 0, (STORE, 0x36, 0, 0, 1, K(0x01020304)), 4) + [(RET,)]
+        native = self.native(image([Function([I32], [], 2, stores)], memories=[(256, 256)]))
+        told = self.same(native, "t/f0", f"arg {last}\n")
+        self.assertEqual(told, f"returned\nmemory 0 pages 256\nrow 0 {last - 12} {'0' * 24}04030201\n")
+        for address in (last + 1, last + 4, 0xFFFFFFFF):
+            self.assertTrue(self.same(native, "t/f0", f"arg {address}\n").startswith("trapped out of bounds"))
+
     def test_depth(self):
         """A function that calls itself as often as its argument says: at most 1,024 calls are open."""
         commands = [(TEST, 0, 8, 12), (SET, 0, SUB, 1, 0, K(1)), (ARG, 0, 0, 0, 1), (CALL, 0), (RET,), (RET,)]
