@@ -16,7 +16,9 @@ from .flow import reachable
 from .reading import Module, secret_variables, transient_variables
 
 FUNCTION = re.compile(r"^f(\d+)(?:\.[a-z0-9.]+)?$")
-TRAP = re.compile(r"^trap(?:\.[a-z0-9.]+)?$")  # the only function of the runtime that a function of the image calls
+TRAP = re.compile(
+    r"^trap(?:\.[a-z0-9.]+)?$"
+)  # the only function of the runtime that a function of the image calls
 NOTHING = "no function of the image is in the file, or its symbols or its lines are gone"
 
 

@@ -156,6 +156,3 @@ def tried(image: Image, given: str, compiler: str, level: str) -> bool:
         return False
     say(f"{one.word} {end}: memcheck saw no branch and no address that depends on a secret, in this run")
     return True
-
-
-

@@ -57,7 +57,8 @@ int main(void)
 
 
 def deep() -> bytes:
-    """A function that calls itself as often as its argument says, and needs what it loaded behind the call."""
+    """A function that calls itself as often as its argument says, and needs behind the call what it loaded
+    before."""
     commands = [*bounded(7, 3, 0, (LOAD, 0, 0x28, 0, 4, 0, 1), 4), (TEST, 1, 11, 15)]
     commands += [(SET, 0, SUB, 5, 1, K(1)), (ARG, 0, 0, 0, 5), (CALL, 0), (SET, 0, SUB, 4, 4, 2)]
     return image([Function([I32], [I32], 5, [*commands, (OUT, 0, 0, 4), (RET,)])], memories=[(1, 1)])
@@ -178,7 +179,8 @@ class Command(unittest.TestCase):
     def test_a_stack_that_is_too_small(self):
         """A call is refused on a thread with 32 KiB, and on a stack that isn't the thread's."""
         self.assertEqual(
-            self.call(self.path("deep.img", deep()), "-o", self.path("deep.c"), "--allow-no", "--object")[0], 0
+            self.call(self.path("deep.img", deep()), "-o", self.path("deep.c"), "--allow-no", "--object")[0],
+            0,
         )
         user = self.path("user.c", STACK_USER.encode())
         subprocess.run(["clang", "-pthread", user, self.path("deep.o"), "-o", self.path("user")], check=True)
@@ -205,10 +207,22 @@ class Command(unittest.TestCase):
     def test_from_c(self):
         """blade-cc writes the header and the object after a yes; what they were made from is judged again."""
         out, source = self.path("out"), self.path("add.c")
-        words = [f"{TOP}/companions/blade-cc", source, "--label", "secret-param add 0", "--native", "-o", f"{out}/"]
+        words = [
+            f"{TOP}/companions/blade-cc",
+            source,
+            "--label",
+            "secret-param add 0",
+            "--native",
+            "-o",
+            f"{out}/",
+        ]
         made = f"{out}/native"
         for text, status, files in (
-            ("unsigned add(unsigned key, unsigned size) { return key + size; }", 0, ["add.c", "add.h", "add.o"]),
+            (
+                "unsigned add(unsigned key, unsigned size) { return key + size; }",
+                0,
+                ["add.c", "add.h", "add.o"],
+            ),
             ("unsigned add(unsigned key, unsigned size) { return size % key; }", 1, []),
         ):
             self.path("add.c", text.encode() + b"\n")
@@ -216,7 +230,9 @@ class Command(unittest.TestCase):
             self.assertEqual((done.returncode, sorted(os.listdir(made))), (status, files), done.stderr)
             if files:
                 with open(f"{made}/add.h", encoding="ascii") as file:
-                    self.assertIn("add_end add_add(add *m, uint32_t key, uint32_t size, uint32_t *r0);", file.read())
+                    self.assertIn(
+                        "add_end add_add(add *m, uint32_t key, uint32_t size, uint32_t *r0);", file.read()
+                    )
 
     # ---- memcheck
 
