@@ -12,6 +12,7 @@ WORDS are clang's and, behind -Wl, wasm-ld's. Besides:
     --export NAME            exports this function, and only such (all that the objects give to others, where the code doesn't say)
     --counts [EXPORT=]START  sets protects by the counts of a run from a start file; may be given again
     --start [EXPORT=]START   after a no, looks for two runs from a start file that show the leak, for ten seconds (blade-witness)
+    --public-callers=F,..    calls inside of the module may give public values for secret parameters of F
     --unlabelled             nothing is declared secret, and that is meant
     --native                 also writes OUT/native/ (NAME.blade/native/): NAME.c, NAME.h and NAME.o for this machine, if the verdict is yes (blade-native)
     --no-fail                status 0 where the verdict is no, and what is made is kept all the same
@@ -26,11 +27,13 @@ Status: 0 constant-time; 1 not; 2 usage; 3 clang or the linker failed; 4 a tool 
 6 blade refuses the module, or a run for --counts fails; 7 two tools don't agree."""
 from __future__ import annotations
 
+import fcntl
 import os
 import shlex
 import sys
+import tempfile
 from collections import Counter
-from typing import List, Optional, Sequence, Tuple
+from typing import Dict, List, Optional, Sequence, Tuple
 
 from .verdict import compare, diagnostics, sarif, text
 from .c.arguments import BUILD, DISAGREE, LABELS, NO, REFUSED, USAGE, YES, Asked, Stop, asked_by
@@ -40,15 +43,17 @@ from .ending import ended
 from .verdict.flow import find
 from .witnesses.hunting import after_no, summary
 from .formats.image import read_image
-from .formats.labels import entries_of
+from .formats.labels import Entry, entries_of
 from .c.lines import Lines, chosen
-from .formats.lowering import lower
+from .formats.lowering import LinkedFunction, lower
 from .formats.memories import pages_of, with_pages
 from .c.paths import shown
 from .formats.certificate import protects_of, read_certificate
 from .formats.reading import Bad, read_file
 from .c.refusals import refusal
-from .c.declarations import NOTHING, left_out, with_source
+from .c.callers import Given, gone, public_arguments
+from .c.compiling import keep_labelled
+from .c.declarations import NOTHING, Labelled, base, left_out, with_source
 from .c.sources import Sources
 from .c.tools import HERE, INCLUDE, Ran, Runner, found, program, written_to
 from .formats.module import FUNCTION, Module, module_of, read_module
@@ -67,6 +72,7 @@ class Driver:
         self.program = program(asked.blade)
         self.module = asked.name or asked.base
         out = asked.out or f"{self.module}.blade/"
+        out = f"./{out}" if out.startswith("-") else out  # no tool takes it for a word
         # A linker's output is a file, and so is what has an ending.
         is_file = not out.endswith("/") and not os.path.isdir(out) and bool(os.path.splitext(out)[1] or not asked.sources)
         self.file = out if is_file else ""
@@ -74,6 +80,8 @@ class Driver:
         if self.file and not asked.name:
             self.module = os.path.splitext(os.path.basename(out))[0]
         self.aside = f"{self.folder}/refused"
+        self.where: Dict[Entry, str] = {}  # where labels were declared
+        self.called: Dict[Entry, str] = {}  # their parameters as C calls them
         self.explained_by: List[str] = []  # further words for blade-explain
         self.builder = Builder(asked, self.runner, f"{self.folder}/build")
 
@@ -84,38 +92,79 @@ class Driver:
     def clear(self) -> None:
         """What an earlier call wrote says nothing of this one, and make would take it for made."""
         reports = [f"{self.module}.sarif", "report.txt", "verify.txt", "problems.json"]
+        self.keep_old()
         native = files_of(f"{self.folder}/native", self.module)
         for path in [f"{self.folder}/{name}" for name in self.made() + reports] + [f"{self.aside}/{name}" for name in self.made()] + [*native, self.file]:
-            if path and os.path.exists(path):
+            if path and os.path.lexists(path):
                 os.remove(path)
-        for folder in (f"{self.folder}/build", self.aside):
+        for folder in (f"{self.folder}/build", self.aside, *[f"{self.folder}/native"] * self.asked.native):
+            for one in [folder] + [f"{folder}/{name}" for name in (os.listdir(folder) if os.path.isdir(folder) else ())]:
+                if os.path.islink(one):
+                    os.remove(one)
             os.makedirs(folder, exist_ok=True)
+        self.keep_old()
+
+    def keep_old(self) -> None:
+        """Where the folder is make's target it stays older than all that it is made of until all is done: a call may be killed at any time."""
+        if not self.file:
+            os.utime(self.folder, (0, 0))
+
+    def enter(self) -> None:
+        """Makes the folder, older than anything from the first, and waits for another call that works there."""
+        if not os.path.isdir(self.folder):
+            above = os.path.dirname(os.path.abspath(self.folder))
+            os.makedirs(above, exist_ok=True)
+            with tempfile.TemporaryDirectory(prefix=".blade-", dir=above) as room:
+                os.mkdir(f"{room}/made", 0o777)
+                for name in ("build", "refused"):
+                    os.mkdir(f"{room}/made/{name}")
+                os.utime(f"{room}/made", (0, 0))
+                try:
+                    os.rename(f"{room}/made", self.folder)
+                except OSError:
+                    if not os.path.isdir(self.folder):
+                        raise
+        self.lock = os.open(self.folder, os.O_RDONLY)
+        try:
+            fcntl.flock(self.lock, fcntl.LOCK_EX | fcntl.LOCK_NB)
+        except BlockingIOError:
+            say(f"blade-cc: note: another blade-cc is at work in {self.folder}; this one waits for it", sys.stderr)
+            fcntl.flock(self.lock, fcntl.LOCK_EX)
+
+    def put(self, name: str, data: bytes) -> None:
+        """Writes a report: whole, and without a time at which the folder looks made."""
+        beside = f"{self.folder}/build/{name}"
+        written_to(beside, data)
+        os.replace(beside, f"{self.folder}/{name}")
+        self.keep_old()
 
     def all(self) -> int:
+        self.enter()
         self.clear()
         for name in ["clang"] * bool(self.asked.sources) + ["wasm-ld", "wasm-opt", "llvm-symbolizer"]:
             found(name)
         objects = self.builder.objects()
         linked = self.builder.link(objects)
-        wrong = left_out(linked, [one for one in objects + self.builder.archives() if os.path.exists(one)])
+        wrong = left_out(linked, self.builder.lines())
         if wrong:
             raise Stop(LABELS, *wrong)
-        modules = self.accessors(self.label(self.builder.split(self.module)))
+        modules = self.accessors(self.label(linked, self.builder.split(self.module)))
         report, verified = self.harden(modules)
+        self.refuse_public_arguments(modules)
         return self.judge(modules, report, verified)
 
-    def label(self, module: Module) -> str:
+    def label(self, linked: Module, module: Module) -> str:
         asked, to = self.asked, f"{self.aside}/{self.module}.wasm"
         # Of the vault the secrets stand in its own module; where nothing at all is declared, that is said with the verdict.
-        self.runner.show([os.path.join(HERE, "blade-label"), module.path, to, *asked.labels, "--unlabelled"])
+        self.runner.show([os.path.join(HERE, "blade-label"), module.path, to, *asked.labels, "--unlabelled", "--linked", linked.path])
         try:
-            made, told = with_source(module, asked.labels, False, True)
+            made, told = with_source(module, asked.labels, False, True, linked)
         except Bad as bad:
             raise Stop(LABELS, f"blade-cc: error: {bad} [blade-label]") from None
-        for line in told.warnings:
-            say(line, sys.stderr)
-        if told.errors:
-            raise Stop(LABELS, *told.errors)
+        errors = told.errors or lost(linked, told, asked.public_callers) or self.builder.strangers(told.others, asked.public_callers)
+        if errors:
+            raise Stop(LABELS, *errors)
+        self.where, self.called = dict(told.entries), told.called
         written_to(to, made)
         return to
 
@@ -138,13 +187,33 @@ class Driver:
     def harden(self, modules: List[str]) -> Tuple[str, str]:
         """The report, and what verify says."""
         image, certificate = f"{self.aside}/{self.module}.img", f"{self.aside}/{self.module}.json"
-        done = self.blade("harden", image, certificate, *modules, *self.counts(modules), to=f"{self.folder}/report.txt")
+        done = self.blade("harden", image, certificate, *modules, *self.counts(modules), to=f"{self.folder}/build/report.txt")
         if done.status:
             raise Stop(REFUSED, *self.refused(done, modules[-1]))
-        verified = self.blade("verify", image, certificate, to=f"{self.folder}/verify.txt")
+        verified = self.blade("verify", image, certificate, to=f"{self.folder}/build/verify.txt")
         if verified.status or verified.out.splitlines()[:2] != ["certificate yes", "stable yes"]:
             raise Stop(DISAGREE, f"blade-cc: error: verify doesn't agree with harden: {verified.out.strip() or verified.status}")
         return done.out, verified.out
+
+    def refuse_public_arguments(self, modules: List[str]) -> None:
+        """What the module's own calls give for a secret parameter is secret in the caller already."""
+        image, functions = read_image(read_file(f"{self.aside}/{self.module}.img", "image")), lower([read_module(path) for path in modules])
+        allowed = {number for number, one in enumerate(functions) if is_meant(one.module, one.index, self.asked.public_callers)}
+        given = public_arguments(image, allowed)
+        if given:
+            lines = Lines(functions)
+            lines.ask([one.position for one in given])
+            raise Stop(LABELS, *dict.fromkeys(self.about(one, functions, lines) for one in given))
+
+    def about(self, given: Given, functions: Sequence[LinkedFunction], lines: Lines) -> str:
+        """An argument that is public, by its line, with what can be done."""
+        callee, line = functions[given.function], lines.line(given.position)
+        entry = "secret-param", (callee.index, given.parameter)
+        where, name = self.where.get(entry, ""), self.called.get(entry, str(given.parameter))
+        parameter = f"parameter {name} of {callee.name}" + (f" ({where})" if where else "")
+        caller = functions[given.caller].name if given.caller >= 0 else "a function"
+        return (f"{line.place + ':' + str(line.column) if line.number else 'blade-cc'}: error: {caller} passes a public value as the secret {parameter}: declare "
+                f"{caller}'s parameter, mark the value by BLADE_SECRET(x), or say --public-callers={base(callee.name)} if that is meant [blade-caller]")
 
     def counts(self, modules: List[str]) -> List[str]:
         """The words for harden, of runs from the start files."""
@@ -188,6 +257,8 @@ class Driver:
         is_yes = verified.endswith("safe yes\n") and report.endswith("constant-time yes\n")
         if is_yes and not self.asked.unlabelled and not is_labelled(modules):
             raise Stop(LABELS, f"blade-cc: error: {self.module}: {NOTHING} [blade-unlabelled]")
+        self.put("report.txt", report.encode())
+        self.put("verify.txt", verified.encode())
         is_kept = is_yes or self.asked.no_fail
         place = self.folder if is_kept else self.aside
         self.move(self.aside, place)
@@ -205,15 +276,16 @@ class Driver:
         if is_kept and self.file:
             written_to(self.file, read_file(modules[-1], "module"))
         protects = next(line for line in report.splitlines() if line.startswith("protects "))
-        print(f"{self.module}: {text.verdict_text(told.found, (), evidence)}; {protects}; {text.declared_text(told.found).partition('. So')[0]}")
+        say(f"{self.module}: {text.verdict_text(told.found, (), evidence)}; {protects}; {text.declared_text(told.found).partition('. So')[0]}")
         for line in summary(evidence, lines) if evidence else ():
-            print(f"{self.module}: {line}")
+            say(f"{self.module}: {line}")
         return YES if is_kept else NO
 
     def move(self, of: str, to: str) -> None:
         for name in self.made() if of != to else []:
             self.runner.show(["mv", f"{of}/{name}", f"{to}/{name}"])
             os.replace(f"{of}/{name}", f"{to}/{name}")
+        self.keep_old()
 
     def explained(self, modules: List[str], made: str, report: str) -> Tuple[diagnostics.Told, Lines, List[str]]:
         """What is to be told of an image; and where that isn't what the program says."""
@@ -228,11 +300,27 @@ class Driver:
         """The places: as text, as JSON and as SARIF."""
         problems, log = f"{self.folder}/problems.json", f"{self.folder}/{self.module}.sarif"
         self.runner.show([os.path.join(HERE, "blade-explain"), f"{made}.img", *modules, "--certificate", f"{made}.json", "--report",
-                          f"{self.folder}/report.txt", "--lines", "--json", problems, "--sarif", log, *self.explained_by])
-        written_to(problems, sarif.as_json(told, f"{made}.img", modules).encode())
-        written_to(log, sarif.as_sarif(told, f"{made}.img", modules, lines, os.getcwd(), sarif.version()).encode())
+                          f"{self.folder}/build/report.txt", "--lines", "--json", problems, "--sarif", log, *self.explained_by])
+        self.put(os.path.basename(problems), sarif.as_json(told, f"{made}.img", modules).encode())
+        self.put(os.path.basename(log), sarif.as_sarif(told, f"{made}.img", modules, lines, os.getcwd(), sarif.version()).encode())
         for line in diagnostics.as_text(told, shown(f"{made}.img"), self.asked.limit, lines):
             say(line, sys.stderr)
+
+
+def is_meant(module: Module, index: int, names: Sequence[str]) -> bool:
+    """Whether words name a function."""
+    called = {module.function_name(index), base(module.function_name(index)), *(name for (sort, name), at in module.exports.items() if (sort, at) == (FUNCTION, index))}
+    return bool(called & set(names))
+
+
+def lost(linked: Module, told: Labelled, names: Sequence[str]) -> List[str]:
+    """Calls of labelled functions that the source has and the module doesn't."""
+    entries = [entry for entry, _ in told.entries]
+    allowed = [numbers[0] for _, numbers in entries if len(numbers) == 2 and is_meant(linked, numbers[0], names)]
+    where = {numbers[0]: place for (_, numbers), place in told.entries if len(numbers) == 2}
+    return [f"{where[target] or 'blade-cc'}: error: {linked.function_name(caller)} calls {linked.function_name(target)} by its source, and nothing of that is left in the "
+            f"module: declare {linked.function_name(caller)}'s parameter, or say --public-callers={base(linked.function_name(target))} if that is meant [blade-caller]"
+            for caller, target in gone(linked, entries, allowed)]
 
 
 def is_labelled(paths: Sequence[str]) -> bool:
@@ -256,10 +344,10 @@ def line_of(module: Module, place: int):
     return lines.known.get((module.path, place - module.code), chosen([]))
 
 
-def mark(driver: Optional[Driver]) -> None:
+def mark(driver: Optional[Driver], is_made: bool) -> None:
     """Where a folder is make's target, one that isn't made is older than all that it is made of."""
     if driver and not driver.file and os.path.isdir(driver.folder):
-        os.utime(driver.folder, (0, 0))
+        os.utime(driver.folder, None if is_made else (0, 0))
 
 
 def write_errors(driver: Optional[Driver], stop: Stop) -> None:
@@ -272,6 +360,8 @@ def status_of(words: Sequence[str], usage: str) -> int:
     if not words or words in (["--help"], ["-h"]):
         print(usage, file=sys.stderr if not words else sys.stdout)
         return USAGE if not words else YES
+    if words[0] == "--keep-labelled":
+        return keep_labelled(words[1:])
     driver, status = None, BUILD
     try:
         asked = asked_by(words)
@@ -287,8 +377,7 @@ def status_of(words: Sequence[str], usage: str) -> int:
             say(line, sys.stderr)
         status = stop.status
     finally:
-        if status:
-            mark(driver)
+        mark(driver, not status)
     return status
 
 

@@ -2,13 +2,20 @@
    labels; on other targets than WebAssembly the macros declare nothing. They stand at file scope. Licence: public domain (CC0).
 
      unsigned lookup(unsigned index);
-     BLADE_SECRET_PARAM(lookup, index);    parameter index of lookup is secret: by its name, or by its number, from 0
+     BLADE_SECRET_PARAM(lookup, index);    parameter index of lookup is secret: by its name in C, or by its number there, from 0
      BLADE_PUBLIC_RESULT(compare);         what compare returns has to be public
      BLADE_SECRET_MEMORY;                  all of C's memory is secret: what pointers lead to, C's variables, and what C keeps in frames
 
-   A function is named behind its declaration and before its definition, in the unit that defines it, or in a header that the unit includes: the
-   macro keeps clang from inlining it, for what an inlined copy is given would not be declared secret. There is no macro for a variable of C: it
-   stands in C's memory, which has one label as a whole. */
+     x = BLADE_SECRET(y);                  an expression: the value of y, a secret from here on
+
+   A function is named behind its declaration and before its definition, in every unit that defines it: put the line into the header that all units
+   include. blade-cc keeps clang from looking through the function, and checks the linked module: what the module's own calls give for a secret
+   parameter has to be secret in the caller already. So best label the functions that are called from outside. A number counts C's parameters. There
+   is no macro for a variable of C: it stands in C's memory, which has one label as a whole.
+
+   BLADE_SECRET is y ^ mask, with a mask that is 0: a global of the module whose first value is secret. y itself stays public, where it comes from and
+   where it goes to without the macro; all values that are marked share two masks, one up to 32 bits and one above; a pointer can't be marked; and
+   clang's -flto doesn't take it. */
 #ifndef BLADE_H
 #define BLADE_H
 #if defined(__wasm__) && !defined(BLADE_OFF)
@@ -21,18 +28,26 @@
     static inline __attribute__((unused)) void BLADE_NAMED_(__COUNTER__)(void) {} \
     __asm__(".section .custom_section.blade.secrets,\"\",@\n.ascii \"" kind "\\t" name "\\t" which "\\t" __FILE__ ":" BLADE_SPELLED_(__LINE__) \
             "\\t" __BASE_FILE__ "\\n\"\n.text\n")
-/* Behind the definition the attribute would come too late: that is an error then. */
-#define BLADE_KEPT_(function) \
+/* The note tells blade-cc which function of that name is meant. Behind the definition the attributes would come too late: that is an error then. */
+#define BLADE_KEPT_(function, kind, name, which) \
     _Pragma("clang diagnostic push") _Pragma("clang diagnostic error \"-Wignored-attributes\"") \
-    extern __typeof__(function) function __attribute__((noinline)); \
+    extern __typeof__(function) function __attribute__((noinline, annotate(kind "\t" name "\t" which "\t" __FILE__ ":" BLADE_SPELLED_(__LINE__) \
+                                                                           "\t" __BASE_FILE__))); \
     _Pragma("clang diagnostic pop")
+#define BLADE_FUNCTION_(function, kind, name, which) BLADE_KEPT_(function, kind, name, which) BLADE_DECLARE_(kind, name, which)
 #define BLADE_SECRET_PARAM(function, parameter) \
-    BLADE_KEPT_(function) BLADE_DECLARE_("secret-param", BLADE_SPELLED_(function), BLADE_SPELLED_(parameter))
-#define BLADE_PUBLIC_RESULT(function) BLADE_KEPT_(function) BLADE_DECLARE_("public-result", BLADE_SPELLED_(function), "0")
+    BLADE_FUNCTION_(function, "secret-param", BLADE_SPELLED_(function), BLADE_SPELLED_(parameter))
+#define BLADE_PUBLIC_RESULT(function) BLADE_FUNCTION_(function, "public-result", BLADE_SPELLED_(function), "0")
 #define BLADE_SECRET_MEMORY BLADE_DECLARE_("secret-memory", "0", "-")
+/* Masks that are 0, in globals of the module whose first values are secret. What is read of a volatile variable isn't known to any compiler. */
+extern volatile unsigned __attribute__((address_space(1))) blade_secret_mask_32;
+extern volatile unsigned long long __attribute__((address_space(1))) blade_secret_mask_64;
+#define BLADE_SECRET(value) \
+    ((__typeof__(value))((value) ^ (__typeof__(value))(sizeof(value) > 4 ? (unsigned long long)blade_secret_mask_64 : blade_secret_mask_32)))
 #else
 #define BLADE_SECRET_PARAM(function, parameter) struct blade_labels_
 #define BLADE_PUBLIC_RESULT(function) struct blade_labels_
 #define BLADE_SECRET_MEMORY struct blade_labels_
+#define BLADE_SECRET(value) (value)
 #endif
 #endif

@@ -2,9 +2,10 @@
 (CC0)."""
 from __future__ import annotations
 
+import hashlib
 import unittest
 
-from blade_companions.formats.labels import entries_of, labelled, section_of, without_labels
+from blade_companions.formats.labels import entries_of, is_changed, labelled, section_of, without_labels
 from blade_companions.formats.reading import Bad
 from blade_companions.formats.module import MAGIC, Module, module_of
 
@@ -27,6 +28,11 @@ CASES = [
     ("public-global 0 secret-memory 0", f"00 13 {HEAD} 02 02 04 00 02 00"),
     ("", f"00 0F {HEAD} 01 00"),
 ]
+# The section that says for which code labels were made: the sections 1, 2, 3, 6 and 10 in order, each with its number and size in front.
+SUMMED = b"".join(bytes.fromhex(PARTS[at]) for at in (0, 1, 2, 4, 6))
+SUM = bytes.fromhex("00 2B 09 62 6C 61 64 65 2E 73 75 6D 01") + hashlib.sha256(SUMMED).digest()
+# Bytes of the imported name, of a global's first value and of the code.
+CHANGED = [MODULE.index(bytes.fromhex("61 01 62")), MODULE.index(bytes.fromhex("41 00 0B")) + 1, MODULE.index(bytes.fromhex("20 00 0B")) + 1]
 # Words that are refused.
 REFUSED = [
     "secret-param add", "secret-memory -1", "secret-memory 1", "secret-local 0", "0", "secret-memory 0 0",
@@ -45,7 +51,8 @@ class Labels(unittest.TestCase):
         for words, spelled in CASES:
             with self.subTest(words):
                 given = labelled(module(), words.split())
-                self.assertEqual(given, MODULE + bytes.fromhex(spelled))
+                self.assertEqual(given, MODULE + bytes.fromhex(spelled) + (SUM if words else b""))
+                self.assertFalse(is_changed(module(given)))
                 self.assertEqual(without_labels(module(given)), MODULE)
 
     def test_words_that_are_refused(self) -> None:
@@ -65,3 +72,13 @@ class Labels(unittest.TestCase):
     def test_another_name_of_that_length_is_none(self) -> None:
         other = MODULE + bytes.fromhex("00 0D 0C 62 6C 61 64 65 2E 73 74 69 63 6B 73")
         self.assertEqual(labelled(module(other), []), other + section_of([]))
+
+    def test_a_module_that_was_changed_after_it_was_labelled(self) -> None:
+        for place in CHANGED:
+            with self.subTest(place):
+                changed = bytearray(labelled(module(), ["secret-memory", "0"]))
+                changed[place] ^= 1
+                self.assertTrue(is_changed(module(bytes(changed))))
+
+    def test_a_module_of_another_tool_has_no_sum(self) -> None:
+        self.assertFalse(is_changed(module(MODULE + section_of([("secret-memory", (0,))]))))

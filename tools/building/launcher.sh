@@ -159,7 +159,15 @@ warn_unlabelled() {
         if [ -f "$file" ] && grep -qaF $'\rblade.secrets' "$file" && ! grep -qaF $'\fblade.labels' "$file"; then
             echo "blade: warning: $file: what its source declares secret isn't in its labels, and counts as public: blade-label puts it there" >&2
         fi
+        warn_changed "$file"
     done
+}
+
+# Warns of a module whose code isn't what its labels were made for: they would speak of other functions and parameters.
+warn_changed() {
+    local label=$here/companions/blade-label
+    if [ ! -f "$1" ] || [ ! -x "$label" ] || ! grep -qaF $'\tblade.sum' "$1" || ! command -v python3 > /dev/null; then return 0; fi
+    "$label" "$1" --check 2> /dev/null || echo "blade: warning: $1: its code was changed after it was labelled, so its labels may speak of other functions: blade-label it again" >&2
 }
 
 # Whether a program isn't there, or is older than a file or folder that it may be made from, or this can't be told.

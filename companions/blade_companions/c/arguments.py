@@ -46,6 +46,7 @@ class Asked:
     way: Optional[str] = None  # ledger or vault
     pages: Optional[int] = None
     limit: int = 20
+    public_callers: List[str] = field(default_factory=list)  # labelled functions that may be given public values
     alone: bool = False
     verbose: bool = False
     unlabelled: bool = False
@@ -54,12 +55,6 @@ class Asked:
 
     def is_linked_with(self, word: str) -> bool:
         return any(word in one for one in self.links)
-
-    @property
-    def labelled_functions(self) -> List[str]:
-        """The functions, by name, of which words declare a parameter."""
-        pairs = zip(self.labels, self.labels[1:])
-        return [name for kind, name in pairs if kind == "secret-param" and not name.isdigit()]
 
     @property
     def base(self) -> str:
@@ -83,7 +78,7 @@ def setters(asked: Asked) -> Dict[str, Callable[[str], None]]:
     return {
         "-o": keep("out"), "--name": keep("name"), "--blade": keep("blade"),
         "--label": lambda value: asked.labels.extend(value.split()), "--counts": asked.counts.append,
-        "--start": keep("start"),
+        "--start": keep("start"), "--public-callers": lambda value: asked.public_callers.extend(value.split(",")),
         "--export": lambda value: asked.links.append(f"--export={value}"),
         "--memory": lambda value: setattr(asked, "pages", number("--memory", value, 256)),
         "--limit": lambda value: setattr(asked, "limit", number("--limit", value, 1_000_000)),

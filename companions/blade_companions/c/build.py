@@ -4,26 +4,27 @@ from __future__ import annotations
 import os
 import re
 import subprocess
-import sys
+import tempfile
 from typing import List, Sequence, Set
 
-from .arguments import BUILD, USAGE, Asked, Stop
+from .arguments import ALONE, BUILD, USAGE, Asked, Stop
 from .dwarf import all_contents
-from .objects import given_by
-from .refusals import about_headers, about_symbols
+from .declarations import lines_in
+from .inputs import Input, inputs_in, lines_of
+from .objects import given_by, given_in, is_recorded
+from .paths import shown
+from .compiling import ASSEMBLER, TARGET, WASI, Compiler
+from .refusals import about_symbols
 from .tools import INCLUDE, Ran, Runner, found, written_to
 from ..formats.module import FUNCTION, Module, read_module
 
-# wasm-opt 108 can't read DWARF 5.
-TARGET = ["--target=wasm32", "-mcpu=mvp", "-gdwarf-4"]
-VISIBLE = "-fvisibility=default"  # else clang hides all functions of this target
 # With the stack first a frame that doesn't fit traps; behind the data it would overwrite that.
 STACK = ["--stack-first", "-z", "stack-size=65536"]
 PAGE = 65536
 FIRST_PAGES = 3  # one for the stack, one for data, one for the buffers of calls
+MASKS = "blade_secret_mask_"  # what BLADE_SECRET reads
 LIBRARY = ("memcpy", "memmove", "memset", "memcmp")
-WASI = os.environ.get("WASI_SYSROOT", "/usr")  # as Debian's wasi-libc stands there, and wasi-sdk's in its own folder
-WASI_HEADERS, WASI_LIBRARY = f"{WASI}/include/wasm32-wasi", f"{WASI}/lib/wasm32-wasi/libc.a"
+WASI_LIBRARY = f"{WASI}/lib/wasm32-wasi/libc.a"
 
 
 class Builder:
@@ -31,55 +32,53 @@ class Builder:
 
     def __init__(self, asked: Asked, runner: Runner, folder: str) -> None:
         self.asked, self.runner, self.folder = asked, runner, folder
-
-    def compiler(self, source: str) -> List[str]:
-        asked = self.asked
-        words = [found("clang++" if source.endswith((".cc", ".cpp", ".cxx", ".C")) else "clang"), *TARGET, VISIBLE]
-        if not any(flag.startswith("-O") for flag in asked.flags):
-            words.append("-O2")
-        if asked.way:
-            words.append(f"-D{asked.way.upper()}")
-        for name in asked.labelled_functions:
-            # What an inlined copy is given would not be declared secret.
-            words += ["-mllvm", f"-force-attribute={name}:noinline"]
-        headers = ["-isystem", INCLUDE, "-isystem", os.path.join(INCLUDE, "freestanding")]
-        if os.path.isdir(WASI_HEADERS):
-            # Its headers ask for the macro.
-            headers += ["-isystem", WASI_HEADERS, "-D__wasi__"]
-        return words + headers + asked.flags
+        self.compiler = Compiler(asked, runner)
+        self.opened: List[Input] = []
+        self.assembled: Set[str] = set()  # objects of sources in assembler, which nothing optimises
 
     def alone(self) -> int:
-        """What clang does by itself."""
+        """What clang does by itself, and objects, which are made as for a module."""
         asked = self.asked
         if asked.objects:
             raise Stop(USAGE, "blade-cc: error: objects, where nothing is linked")
-        words = self.compiler((asked.sources or ["x.c"])[0]) + asked.sources + (["-o", asked.out] if asked.out else [])
+        last = [flag for flag in asked.flags if flag in ("-c", "-S")]
+        if last and not any(is_clangs_own(flag) for flag in asked.flags):
+            asked.flags = [flag for flag in asked.flags if flag not in ("-c", "-S")]
+            return self.objects_alone(last[-1])
+        words = self.compiler.words((asked.sources or ["x.c"])[0]) + asked.sources + (["-o", asked.out] if asked.out else [])
         self.runner.show(words)
         return BUILD if subprocess.run(words, check=False).returncode else 0
 
-    def compile(self, source: str, to: str) -> None:
-        done = self.runner.run(self.compiler(source) + ["-c", "-o", to, source])
-        sys.stdout.write(done.out)
-        sys.stderr.write(done.errors)
-        if done.status:
-            raise Stop(BUILD, *about_headers(done.errors))
+    def objects_alone(self, last: str) -> int:
+        sources, out = self.asked.sources, self.asked.out
+        if out and len(sources) != 1:
+            raise Stop(USAGE, "blade-cc: error: -o with several sources, where nothing is linked")
+        with tempfile.TemporaryDirectory(prefix="blade-") as folder:
+            for source in sources:
+                ending = ".o" if last == "-c" else ".s"
+                self.compiler.compile(source, out or os.path.splitext(os.path.basename(source))[0] + ending, folder, last)
+        return 0
 
     def objects(self) -> List[str]:
         """The objects of the sources, and those that were given."""
         made = []
         for number, source in enumerate(self.asked.sources):
             made.append(f"{self.folder}/{number}-{os.path.splitext(os.path.basename(source))[0]}.o")
-            self.compile(source, made[-1])
+            self.compiler.compile(source, made[-1], self.folder)
+            if source.endswith(ASSEMBLER):
+                self.assembled.add(os.path.realpath(made[-1]))
         return made + self.asked.objects
 
-    def library(self) -> List[str]:
-        """What stands in no file that was given: the four functions of libc.c, which give way to the sources' own; wasi-libc and clang's own
-        functions, where they are installed. memcmp of wasi-libc stops at the first difference, so that of libc.c goes first."""
+    def library(self, missing: Set[str]) -> List[str]:
+        """What stands in no file that was given: the masks of BLADE_SECRET; the four functions of libc.c, which give way to the sources' own; wasi-libc and
+        clang's own functions, where they are installed. memcmp of wasi-libc stops at the first difference, so that of libc.c goes first."""
         source, to = f"{self.folder}/blade-libc.c", f"{self.folder}/blade-libc.o"
-        written_to(source, ("".join(f"#pragma weak {name}\n" for name in LIBRARY) + f'#include "{INCLUDE}/libc.c"\n').encode())
+        written_to(source, ("".join(f"#pragma weak {name}\n" for name in LIBRARY) + f'#include "{INCLUDE}/libc.c"\n#include "{INCLUDE}/masks.c"\n').encode())
         done = self.runner.run([found("clang"), *TARGET, "-O2", "-fno-builtin", "-fvisibility=hidden", "-c", "-o", to, source])
         if done.status:
             raise Stop(BUILD, done.errors)
+        if all(name.startswith(MASKS) for name in missing):
+            return [to]
         own = subprocess.run([found("clang"), "--target=wasm32-wasi", "-print-libgcc-file-name"], capture_output=True, text=True, check=False).stdout.strip()
         return [to] + [one for one in (WASI_LIBRARY, own) if os.path.exists(one)]
 
@@ -107,11 +106,12 @@ class Builder:
         extra: List[str] = []
         least = pages = self.asked.pages or FIRST_PAGES
         while True:
-            done = self.runner.run([found("wasm-ld"), "--no-entry", *links, *self.memory(pages), *self.asked.links, *exports, "-o", linked, *objects, *extra])
+            done = self.runner.run([found("wasm-ld"), "--no-entry", *links, *self.memory(pages), *self.asked.links, *exports, f"--reproduce={self.folder}/inputs.tar", "-o", linked,
+                                    *objects, *extra])
             missing = set(re.findall(r"undefined symbol: (\S+)", done.errors))
             needed = re.search(r"memory too small, (\d+) bytes needed", done.errors)
             if done.status and missing and not extra:
-                extra = self.library()
+                extra = self.library(missing)
             elif done.status and needed and not self.asked.pages and pages == least:
                 pages = -(-int(needed[1]) // PAGE) + 1
             elif done.status:
@@ -127,19 +127,42 @@ class Builder:
             hints.append("blade-cc: note: give more pages by --memory PAGES")
         return Stop(BUILD, done.errors.rstrip(), *hints)
 
-    def archives(self) -> List[str]:
-        """The archives that -l and -L name."""
-        folders = [word[2:] for word in self.asked.links if word.startswith("-L")]
-        named = [f"{folder}/lib{word[2:]}.a" for word in self.asked.links if word.startswith("-l") for folder in folders]
-        return [one for one in named if os.path.exists(one)]
+    def inputs(self) -> List[Input]:
+        """All that the linker opened."""
+        if not self.opened:
+            self.opened = inputs_in(f"{self.folder}/inputs.tar")
+        return self.opened
+
+    def lines(self) -> List[str]:
+        """The lines of blade.h in all that the linker opened, linked or not."""
+        return [line for one in self.inputs() for line in (lines_of(one, self.runner, self.folder) if one.is_bitcode else lines_in(one.data))]
+
+    def strangers(self, names: Sequence[str], meant: Sequence[str]) -> List[str]:
+        """Labelled functions of objects that blade-cc didn't compile, beside which other functions may have copies of their code."""
+        told = []
+        for name in names:
+            for one in self.inputs() if name not in meant and not name.isdigit() else []:
+                given = given_in(one.data, one.path) if one.is_object else []
+                more = [other for other in given if other != name and other not in names]
+                if name in given and more and not is_recorded(one) and one.path not in self.assembled:
+                    told.append(f"blade-cc: error: {shown(one.path)} has {name}, and blade-cc didn't compile it, so a copy of {name} may stand in {more[0]}, where "
+                                f"nothing is declared: compile it by blade-cc -c, or say --public-callers={name} if there is none [blade-caller]")
+        return told
 
     def split(self, name: str) -> Module:
         linked, made = f"{self.folder}/linked.wasm", f"{self.folder}/{name}.wasm"
+        if os.path.lexists(made):
+            os.remove(made)  # wasm-opt would follow a link
         done = self.runner.run([found("wasm-opt"), "-g", "--untee", "--ssa", linked, "-o", made])
         if done.status:
             why = ": it can't read DWARF 5, so compile by blade-cc -c, or with -gdwarf-4" if has_dwarf_5(linked) else ""
             raise Stop(BUILD, *filter(None, [done.errors.rstrip()]), f"blade-cc: error: wasm-opt ends with status {done.status}{why}")
         return read_module(made)
+
+
+def is_clangs_own(flag: str) -> bool:
+    """Whether a word asks for something that is no object."""
+    return flag in ALONE and flag not in ("-c", "-S") or flag.startswith(("-print-", "-dump")) or flag == "--version"
 
 
 def has_dwarf_5(path: str) -> bool:

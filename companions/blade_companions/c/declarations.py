@@ -8,12 +8,17 @@ from dataclasses import dataclass, field
 from typing import Dict, FrozenSet, List, NamedTuple, Optional, Sequence, Set, Tuple
 
 from .dwarf import Call, Subprogram, Walk, all_contents, subprograms, variables
-from ..formats.labels import KINDS, Entry, check, entries_in, is_labelled, number_of, section_of, without_labels
+from ..formats.labels import KINDS, Entry, check, entries_in, is_labelled, number_of, with_labels
+from .opaque import BY_WORDS, Named, of_words
 from .paths import shown
-from ..formats.reading import Bad, read_file
-from ..formats.module import FUNCTION, Module
+from .units import Resolved
+from .units import Resolver as ByUnits
+from ..formats.reading import Bad
+from ..formats.module import FUNCTION, GLOBAL, FuncType, Module
 
 NAME = "blade.secrets"
+MASK = re.compile(r"blade_secret_mask_(?:32|64)(?:[._]\d+)?")
+MOST_LINES, MOST_ERRORS = 4096, 50
 INCLUDED = "<built-in>"  # what clang calls the unit in a file that is named by -include: that goes to all units
 NOTHING = "nothing is declared secret: BLADE_SECRET_PARAM or BLADE_SECRET_MEMORY of blade.h, or words; --unlabelled where that is meant"
 KEEP = "so keep it by __attribute__((noinline)), or declare the caller's parameter"
@@ -31,17 +36,21 @@ class Declared:
 
 
 class Labelled(NamedTuple):
-    """Entries, each with where it was declared; what is wrong with the others; and what is to be known of those of words."""
+    """Entries, each with where it was declared; what is wrong with the others; and what is to be known besides."""
 
     entries: List[Tuple[Entry, str]]
     errors: List[str]
     warnings: List[str]
+    others: Tuple[str, ...] = ()  # functions of units that blade-cc didn't compile
+    called: Dict[Entry, str] = {}  # parameters as C calls them
 
 
 def read_lines(lines: Sequence[str]) -> List[Declared]:
     found: Dict[Tuple[str, ...], Set[str]] = {}
     for line in lines:
         parts = line.split("\t")
+        if len(found) > MOST_LINES:
+            raise Bad(f"{NAME}: more than {MOST_LINES} lines")
         if len(parts) != 5 or parts[0] not in KINDS:
             raise Bad(f"{NAME}: a line that blade.h doesn't write: {line!r}")
         found.setdefault(tuple(parts[:4]), set()).add(parts[4])
@@ -53,22 +62,22 @@ def declared(module: Module) -> List[Declared]:
     return read_lines(b"".join(all_contents(module, NAME)).decode("utf-8", "replace").splitlines())
 
 
-def in_files(paths: Sequence[str]) -> List[Declared]:
-    """The lines that stand in objects and archives, members that aren't linked included. In LLVM's bitcode they can't be seen."""
+def lines_in(data: bytes) -> List[str]:
+    """The lines that stand in an object."""
     pattern = rb"(?:%s)\t[^\t\n]+\t[^\t\n]+\t[^\t\n]+:\d+\t[^\t\n]+\n" % "|".join(KINDS).encode()
-    return read_lines([words.decode("utf-8", "replace").rstrip("\n") for path in paths for words in re.findall(pattern, read_file(path))])
+    return [line.decode("utf-8", "replace").rstrip("\n") for line in re.findall(pattern, data)]
 
 
-def left_out(module: Module, paths: Sequence[str]) -> List[str]:
-    """What stands in units that the linker left out and yet speaks of the module: it would be public in silence."""
-    kept, told = set(declared(module)), []
-    for one in in_files(paths):
+def left_out(module: Module, lines: Sequence[str]) -> List[str]:
+    """What stands in units that the linker left out and yet speaks of the module: it would be public in silence. The lines are those of all units."""
+    kept, told, names = set(declared(module)), [], names_of(module)
+    for one in read_lines(lines):
         if one in kept:
             continue
         if one.kind == "secret-memory":
             told.append(f"{one.where}: error: the memory is declared secret here, in a unit of a library that isn't linked: declare it beside "
                         "a function that is used, or by --label 'secret-memory 0' [blade-label]")
-        elif KINDS[one.kind].names[0] == "function" and named(module, one.name):
+        elif KINDS[one.kind].names[0] == "function" and names.get(one.name):
             told.append(f"{one.where}: error: {one.name} is labelled here, in a unit of a library that isn't linked: have the unit that defines "
                         f"{one.name} include this line [blade-label]")
     return told
@@ -85,10 +94,24 @@ def near(word: str, names: Sequence[str]) -> str:
     return f": do you mean {found[0]}?" if found else ""
 
 
-def named(module: Module, name: str) -> Set[int]:
-    """The functions of a name. wasm-opt calls the second of two static functions NAME.1."""
-    found = {index for index, told in module.names.items() if name in (told, base(told), re.sub(r"\.\d+$", "", told))}
-    return found | {index for (sort, told), index in module.exports.items() if (sort, told) == (FUNCTION, name)}
+def names_of(module: Module) -> Dict[str, Set[int]]:
+    """The functions by their names. wasm-opt calls the second of two static functions NAME.1."""
+    found: Dict[str, Set[int]] = {}
+    for index, told in module.names.items():
+        for name in (told, base(told), re.sub(r"\.\d+$", "", told)):
+            found.setdefault(name, set()).add(index)
+    for (sort, told), index in module.exports.items():
+        if sort == FUNCTION:
+            found.setdefault(told, set()).add(index)
+    return found
+
+
+def by_name(told: Sequence[Subprogram]) -> Dict[str, List[Subprogram]]:
+    found: Dict[str, List[Subprogram]] = {}
+    for one in told:
+        for name in dict.fromkeys((one.name, one.linkage)):
+            found.setdefault(name, []).append(one)
+    return found
 
 
 class Resolver:
@@ -98,6 +121,7 @@ class Resolver:
         self.module = module
         walk = Walk(module)
         self.told, self.folders = walk.run(), walk.folders
+        self.names, self.known = names_of(module), by_name(self.told)
 
     def place(self, one: Declared) -> str:
         """Where a line stands: its file was named from the folder that its unit was compiled in."""
@@ -109,8 +133,8 @@ class Resolver:
         """The function, and what DWARF says of those of its name."""
         if name.isdigit():
             return int(name), []
-        known = [one for one in self.told if name in (one.name, one.linkage)]
-        found = {one.function for one in known if one.function is not None} | named(self.module, name)
+        known = self.known.get(name, [])
+        found = {one.function for one in known if one.function is not None} | self.names.get(name, set())
         if len(found) > 1:
             # Static ones of several files: that of the file that the line stands in.
             file = "/" + where.rpartition(":")[0]
@@ -185,7 +209,7 @@ class Resolver:
         if not self.has_line(defined, one):
             raise Bad(f"{one.name} is defined in {defined.unit}, which doesn't have this line, so it may be inlined there, where nothing is declared: "
                       "have that unit include it (-include FILE.h does without a change)")
-        calls = copies(self.told, function)
+        calls = copies(known, function)
         if one.kind == "secret-param" and calls:
             raise Bad(f"{one.name} is inlined at {calls[0].path}:{calls[0].line}, and what it is given there isn't declared secret, {KEEP}")
         return one.kind, (function, self.parameter(function, defined, one.which) if one.kind == "secret-param" else int(one.which))
@@ -196,19 +220,36 @@ def copies(told: Sequence[Subprogram], function: int) -> List[Call]:
     return list(dict.fromkeys(call for it in told if it.function == function for call in it.inlined))
 
 
-def of_source(module: Module) -> Labelled:
-    """What the source declares."""
-    lines, found, errors = declared(module), [], []
+def of_source(module: Module, answered: Set[Named]) -> Labelled:
+    """What the source declares, but for what is answered already."""
+    lines = [one for one in declared(module) if named_by(one) not in answered]
+    found: List[Tuple[Entry, str]] = []
+    errors: List[str] = []
     resolver = Resolver(module) if lines else None
+    seen: Set[Entry] = set()
     for one in lines:
         try:
             entry = resolver.entry(one)
-            if entry not in [other for other, _ in found]:
-                check(module, [other for other, _ in found] + [entry])
+            if entry not in seen:
+                check(module, [entry])
+                seen.add(entry)
                 found.append((entry, resolver.place(one)))
         except Bad as bad:
             errors.append(f"{resolver.place(one)}: error: {bad} [blade-label]")
-    return Labelled(found, errors, [])
+        if len(errors) > MOST_ERRORS:
+            break
+    check(module, [entry for entry, _ in found])
+    return Labelled(found, errors, [], tuple(one.name for one in lines if KINDS[one.kind].names[0] == "function"))
+
+
+def masks_of(module: Module) -> List[Entry]:
+    """The masks of BLADE_SECRET: globals whose first values are secret."""
+    imported = len(module.imported(GLOBAL))
+    return [("secret-global", (index,)) for index, name in sorted(module.global_names.items()) if MASK.fullmatch(name) and index >= imported]
+
+
+def named_by(one: Declared) -> Named:
+    return Named(one.kind, one.name, one.which, one.where)
 
 
 def numbered(module: Module, words: Sequence[str]) -> List[str]:
@@ -222,26 +263,62 @@ def numbered(module: Module, words: Sequence[str]) -> List[str]:
     return made
 
 
-def labels_of(module: Module, words: Sequence[str] = ()) -> Labelled:
-    """What the source declares, and what words declare besides."""
-    found, errors, warnings = of_source(module)
-    by_source = [entry for entry, _ in found]
-    by_words = [entry for entry in entries_in(module, numbered(module, words)) if entry not in by_source]
-    check(module, by_source + by_words)
+def without(words: Sequence[str], answered: Set[Named]) -> List[str]:
+    """The words but for those of functions that are answered already."""
+    return [word for label in split(words) if len(label) != 3 or Named(*label, BY_WORDS) not in answered for word in label]
+
+
+def joined(words: Sequence[str], more: Sequence[str]) -> List[str]:
+    """Words, and those of further labels that they don't have."""
+    labels = [tuple(one) for one in split(words)]
+    return [word for label in dict.fromkeys(labels + [tuple(one) for one in split(more) if tuple(one) not in labels]) for word in label]
+
+
+def split(words: Sequence[str]) -> List[List[str]]:
+    """The words of each label."""
+    found, at = [], 0
+    while at < len(words):
+        size = 1 + len(KINDS[words[at]].names) if words[at] in KINDS else 1
+        found.append(list(words[at : at + size]))
+        at += size
+    return found
+
+
+def types_of(module: Module) -> List[FuncType]:
+    return [module.type_of(function) for function in range(len(module.functions))]
+
+
+def labels_of(module: Module, words: Sequence[str] = (), linked: Optional[Module] = None) -> Labelled:
+    """What the source declares, and what words declare besides. The units of the linked module know more than the module that is made of it."""
+    known = ByUnits(linked, words).found if linked else Resolved()
+    if linked and types_of(linked) != types_of(module):
+        raise Bad(f"{module.name}: wasm-opt has changed which functions there are")
+    source = of_source(module, known.answered)
+    errors, others = source.errors, source.others
+    rest = joined(without(words, known.answered), known.words)
+    masks = [(entry, "") for entry in masks_of(module)]
+    if known.marked and not masks:
+        errors.append(f"blade-cc: error: {shown(known.marked[0])} uses BLADE_SECRET, and the module doesn't have its masks by name: link without -s, and drop "
+                      "what nothing uses [blade-label]")
+    by_source = known.entries + masks + [one for one in source.entries if one[0] not in [entry for entry, _ in known.entries]]
+    declared_before = [entry for entry, _ in by_source]
+    by_words = [entry for entry in entries_in(module, numbered(module, rest)) if entry not in declared_before]
+    check(module, declared_before + by_words)
     params = [numbers[0] for kind, numbers in by_words if kind == "secret-param"]
     told = subprograms(module) if params else []
     for function in dict.fromkeys(params):
         name = module.function_name(function)
-        warnings += [f"{call.path}:{call.line}:{call.column}: warning: {name} is inlined here, in {call.caller}, and what it is given isn't declared secret, {KEEP} "
-                     "[blade-inlined]" for call in copies(told, function)]
-    return Labelled(found + [(entry, "") for entry in by_words], errors, warnings)
+        errors += [f"{call.path}:{call.line}:{call.column}: error: {name} is inlined here, in {call.caller}, and what it is given isn't declared secret, {KEEP} "
+                   "[blade-inlined]" for call in copies(told, function)]
+    others += tuple(named.name for named in of_words(rest))
+    return Labelled(by_source + [(entry, "") for entry in by_words], known.errors + errors, [], others, known.called)
 
 
-def with_source(module: Module, words: Sequence[str], replace: bool = False, unlabelled: bool = False) -> Tuple[bytes, Labelled]:
+def with_source(module: Module, words: Sequence[str], replace: bool = False, unlabelled: bool = False, linked: Optional[Module] = None) -> Tuple[bytes, Labelled]:
     """The module with the labels of its source and of words, which stand where nothing is wrong."""
     if is_labelled(module) and not replace:
         raise Bad("the module has a section blade.labels already: --replace, or --remove it")
-    found = labels_of(module, words)
+    found = labels_of(module, words, linked)
     if not found.entries and not found.errors and not unlabelled:
         raise Bad(NOTHING)
-    return without_labels(module) + section_of([entry for entry, _ in found.entries]), found
+    return with_labels(module, [entry for entry, _ in found.entries]), found

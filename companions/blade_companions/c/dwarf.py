@@ -11,6 +11,9 @@ COMPILE_UNIT, SUBPROGRAM, PARAMETER, INLINED, VARIABLE = 0x11, 0x2E, 0x05, 0x1D,
 POINTERS, AGGREGATES, PASSING = frozenset([0x0F, 0x10, 0x42, 0x01]), frozenset([0x13, 0x17, 0x02]), frozenset([0x16, 0x26, 0x35, 0x37, 0x47])
 NAME, LOW_PC, LINKAGE, ORIGIN, SPECIFICATION, LOCATION, LINE, CALL_LINE, CALL_COLUMN, FOLDER, STR_BASE, ADDR_BASE, TYPE = (
     0x03, 0x11, 0x6E, 0x31, 0x47, 0x02, 0x3B, 0x59, 0x57, 0x1B, 0x72, 0x73, 0x49)
+WANTED = frozenset([NAME, LOW_PC, LINKAGE, ORIGIN, SPECIFICATION, LOCATION, LINE, CALL_LINE, CALL_COLUMN, FOLDER, STR_BASE, ADDR_BASE, TYPE])
+# The most entries, attributes and letters of strings, beside as many as the bytes of the file allow: a small file could name much more.
+ENTRIES, BYTES_OF_ENTRY, WORK, WORK_OF_BYTE = 100_000, 20, 500_000, 2
 GONE = 0xFFFFFFF0  # the linker's addresses of what it dropped are above
 FIXED = {0x01: 4, 0x0B: 1, 0x05: 2, 0x06: 4, 0x07: 8, 0x0C: 1, 0x11: 1, 0x12: 2, 0x13: 4, 0x14: 8, 0x17: 4, 0x1E: 16, 0x20: 8,
          0x25: 1, 0x26: 2, 0x27: 3, 0x28: 4, 0x29: 1, 0x2A: 2, 0x2B: 3, 0x2C: 4}
@@ -35,13 +38,15 @@ class Param(NamedTuple):
     is_struct: bool
 
 
-@dataclass
 class Entry:
-    """An entry of .debug_info."""
+    """An entry of .debug_info, with those of its attributes that are of use here."""
 
-    tag: int
-    values: Dict[int, object]
-    children: List["Entry"] = field(default_factory=list)
+    __slots__ = ("tag", "values", "children")
+
+    def __init__(self, tag: int) -> None:
+        self.tag = tag
+        self.values: Dict[int, object] = {}
+        self.children: List["Entry"] = []
 
 
 @dataclass
@@ -91,6 +96,26 @@ class Units:
         self.by_offset: Dict[int, Entry] = {}
         self.name = module.name
         self.base, self.address_base = 8, 8
+        self.entries = ENTRIES + len(module.data) // BYTES_OF_ENTRY
+        self.work = WORK + len(module.data) * WORK_OF_BYTE
+        self.tables: Dict[int, Dict[int, Tuple[int, bool, list]]] = {}
+        self.texts: Dict[Tuple[int, int], str] = {}
+
+    def spend(self, work: int, entries: int = 0) -> None:
+        """Counts what is read: it has to be in proportion to the file."""
+        self.work -= work
+        self.entries -= entries
+        if self.work < 0 or self.entries < 0:
+            raise Bad(f"{self.name}: its DWARF names more than a file of its size should: leave it out (-g0, or llvm-strip --strip-debug)")
+
+    def text(self, reader: Optional[Reader], place: int) -> str:
+        """A string by its place, each read once."""
+        key = id(reader), place
+        if key not in self.texts:
+            found = text_at(reader, place)
+            self.spend(len(found))
+            self.texts[key] = found
+        return self.texts[key]
 
     def all(self) -> List[Entry]:
         found: List[Entry] = []
@@ -126,9 +151,12 @@ class Units:
                     open_entries.pop()
                 continue
             tag, nests, pairs = listed[code]
-            entry = Entry(tag, {})
+            entry = Entry(tag)
+            self.spend(1 + len(pairs), 1)
             for attribute, form, constant in pairs:
-                entry.values[attribute] = self.value(form, constant, size, start)
+                value = self.value(form, constant, size, start)
+                if attribute in WANTED:
+                    entry.values[attribute] = value
             if tag == COMPILE_UNIT:
                 self.base = entry.values.get(STR_BASE, 8)
                 self.address_base = entry.values.get(ADDR_BASE, 8)
@@ -147,12 +175,17 @@ class Units:
             for attribute, value in entry.values.items():
                 if isinstance(value, tuple) and value[0] == "string":
                     place = self.base + 4 * value[1]
-                    entry.values[attribute] = text_at(self.strings, int.from_bytes(self.offsets.data[place : place + 4], "little"))
+                    entry.values[attribute] = self.text(self.strings, int.from_bytes(self.offsets.data[place : place + 4], "little"))
                 elif isinstance(value, tuple) and value[0] == "address":
                     place = self.address_base + 4 * value[1]
                     entry.values[attribute] = int.from_bytes(self.addresses.data[place : place + 4], "little")
 
     def table(self, place: int) -> Dict[int, Tuple[int, bool, list]]:
+        if place not in self.tables:
+            self.tables[place] = self.read_table(place)
+        return self.tables[place]
+
+    def read_table(self, place: int) -> Dict[int, Tuple[int, bool, list]]:
         reader, found = Reader(self.abbreviations.data, place), {}
         while True:
             code = reader.number()
@@ -162,6 +195,7 @@ class Units:
             while True:
                 attribute, form = reader.number(), reader.number()
                 constant = reader.signed() if form == 0x21 else 0
+                self.spend(1)
                 if not attribute:
                     break
                 pairs.append((attribute, form, constant))
@@ -179,7 +213,7 @@ class Units:
         if form in FIXED:
             return self.fixed(FIXED[form])
         if form in (0x0E, 0x1F):
-            return text_at(self.strings if form == 0x0E else self.line_strings, self.fixed(4))
+            return self.text(self.strings if form == 0x0E else self.line_strings, self.fixed(4))
         if form == 0x08:
             start = info.place
             info.place = info.data.index(b"\0", start) + 1

@@ -3,8 +3,10 @@ from __future__ import annotations
 
 from typing import List, Optional
 
-from ..formats.reading import Reader, read_file
-from ..formats.module import FUNCTION, module_of
+from ..formats.reading import Reader
+from ..formats.module import FUNCTION, sections_of
+from .inputs import Input
+from .opaque import NAME as UNITS
 
 SYMBOLS = 8  # the part of the section `linking` that lists symbols
 DATA, SECTIONS = 1, 3  # kinds of symbols beside those of modules
@@ -13,16 +15,23 @@ LOCAL, HIDDEN, UNDEFINED, NAMED = 2, 4, 0x10, 0x40  # their flags
 
 def given_by(path: str) -> Optional[List[str]]:
     """The functions that an object defines for others, by name; None where it is no object of WebAssembly, such as LLVM's bitcode or an archive."""
-    data = read_file(path)
-    if not data.startswith(b"\0asm"):
-        return None
-    module = module_of(data, path)
-    for section in module.sections:
+    with open(path, "rb") as file:
+        data = file.read()
+    return given_in(data, path) if data.startswith(b"\0asm") else None
+
+
+def given_in(data: bytes, path: str) -> List[str]:
+    for section in sections_of(data):
         if section.name == "linking":
             reader = Reader(data, section.contents, section.end)
             reader.text(), reader.number()
             return parts(reader)
     return []
+
+
+def is_recorded(one: Input) -> bool:
+    """Whether blade-cc compiled an object."""
+    return any(section.name == UNITS for section in sections_of(one.data))
 
 
 def parts(reader: Reader) -> List[str]:

@@ -85,10 +85,12 @@ class Runner:
         if self.is_shown:
             print(f" {text}", file=sys.stderr, flush=True)
 
-    def run(self, words: Sequence[str], to: str = "", errors: Optional[int] = subprocess.PIPE) -> Ran:
-        """What is printed goes to a file, too, where one is named; errors are kept, or go on to who asked (None)."""
-        self.show(words, to)
-        done = subprocess.run(words, stdout=subprocess.PIPE, stderr=errors, text=True, check=False)
+    def run(self, words: Sequence[str], to: str = "", errors: Optional[int] = subprocess.PIPE, given: Optional[str] = None) -> Ran:
+        """What is printed goes to a file, too, where one is named; errors are kept, or go on to who asked (None). A question that is given on the standard
+        input isn't shown, since nothing comes of it but further words."""
+        if given is None:
+            self.show(words, to)
+        done = subprocess.run(words, input=given, stdout=subprocess.PIPE, stderr=errors, text=True, errors="replace", check=False)
         if to:
             written_to(to, done.stdout.encode())
         return Ran(done.returncode, done.stdout, done.stderr or "")

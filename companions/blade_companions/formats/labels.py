@@ -1,6 +1,7 @@
 """The section blade.labels of a module: what is secret there, and what has to stay public. Licence: public domain (CC0)."""
 from __future__ import annotations
 
+import hashlib
 from dataclasses import dataclass
 from typing import Dict, List, Sequence, Tuple
 
@@ -8,6 +9,9 @@ from .reading import Bad, Reader
 from .module import FUNCTION, GLOBAL, MEMORY, Module
 
 NAME = "blade.labels"
+SUM = "blade.sum"  # the section that says for which code the labels were made
+SUMMED = (1, 2, 3, 6, 10)  # types, imports, functions, globals and code: what labels speak of by numbers
+UNITS = "blade.units"  # of use for a linked module alone
 
 
 @dataclass(frozen=True)
@@ -47,13 +51,39 @@ def section_of(entries: Sequence[Entry]) -> bytes:
     return b"\0" + leb(len(contents)) + contents
 
 
+def sum_of(module: Module) -> bytes:
+    """A sum over all that labels speak of."""
+    told = hashlib.sha256()
+    for section in module.sections:
+        if section.number in SUMMED:
+            told.update(bytes([section.number]) + leb(section.end - section.contents) + module.data[section.contents : section.end])
+    return told.digest()
+
+
+def sum_section(module: Module) -> bytes:
+    contents = leb(len(SUM)) + SUM.encode() + b"\1" + sum_of(module)
+    return b"\0" + leb(len(contents)) + contents
+
+
+def is_changed(module: Module) -> bool:
+    """Whether the module isn't the one any more that its labels were made for. One without a sum was labelled by another tool."""
+    sums = [section for section in module.sections if section.name == SUM]
+    return any(module.data[section.start : section.end] != sum_section(module) for section in sums)
+
+
+def refuse_changed(module: Module) -> None:
+    if is_changed(module):
+        raise Bad(f"{module.name}: its code isn't what its labels were made for: another tool has changed it since, so label what it makes "
+                  "(blade-label --replace)")
+
+
 def is_labelled(module: Module) -> bool:
     return any(section.name == NAME for section in module.sections)
 
 
 def without_labels(module: Module) -> bytes:
-    """The bytes of the module without such sections."""
-    kept = [module.data[section.start : section.end] for section in module.sections if section.name != NAME]
+    """The bytes of the module without labels and what speaks of them."""
+    kept = [module.data[section.start : section.end] for section in module.sections if section.name not in (NAME, SUM, UNITS)]
     return module.data[:8] + b"".join(kept)
 
 
@@ -141,7 +171,12 @@ def labelled(module: Module, words: Sequence[str], replace: bool = False) -> byt
         raise Bad("the module has a section blade.labels already: --replace, or --remove it")
     entries = entries_in(module, words)
     check(module, entries)
-    return without_labels(module) + section_of(entries)
+    return with_labels(module, entries)
+
+
+def with_labels(module: Module, entries: Sequence[Entry]) -> bytes:
+    """The module with a section of these entries, and one that says for which code they were made."""
+    return without_labels(module) + section_of(entries) + (sum_section(module) if entries else b"")
 
 
 def listing(module: Module) -> List[str]:
@@ -155,4 +190,5 @@ def listing(module: Module) -> List[str]:
     for index in range(len(module.imported(GLOBAL)), len(module.globals)):
         lines.append(f"global {index} {module.global_names.get(index, '')}".rstrip())
     lines += [f"memory {index}" for index in range(len(module.imported(MEMORY)), module.memories)]
+    lines += ["changed since it was labelled"] * is_changed(module)
     return lines + [f"labelled {one}" for one in told] + ([] if told else ["labelled nothing"])

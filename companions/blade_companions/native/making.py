@@ -22,6 +22,7 @@ from .stack import frames_in, most_bytes
 from .translation import translate
 
 DONE, NO = 0, 1
+MADE_BY = b"/* Made by blade-native"  # how NAME.c and NAME.h begin
 MOST_FINDINGS = 20  # are printed
 YES = "blade verify says yes to all four questions"
 
@@ -61,8 +62,21 @@ def made_of(output: str) -> List[str]:
     return [f"{output[:-2]}.o", f"{library}.a", f"{library}.so"]
 
 
+def is_ours(path: str) -> bool:
+    """Whether blade-native made a file of C."""
+    try:
+        with open(path, "rb") as file:
+            return file.read(len(MADE_BY)) == MADE_BY
+    except OSError:
+        return False
+
+
 def write(image: Image, output: str, verdict: str) -> None:
-    """Writes NAME.c and NAME.h. What was compiled from an earlier NAME.c is removed."""
+    """Writes NAME.c and NAME.h, but not over files that somebody else wrote. What was compiled from an earlier
+    NAME.c is removed."""
+    for path in (output, f"{output[:-2]}.h"):
+        if os.path.lexists(path) and not is_ours(path):
+            raise Bad(f"{path} wasn't made by blade-native, and isn't overwritten")
     translation = translate(image.module, prefix_of(output), verdict, image.origin)
     for path in filter(os.path.lexists, made_of(output)):
         os.unlink(path)
@@ -119,9 +133,14 @@ def makes(image: Image, how: Building, output: str) -> int:
 
 
 def files_of(folder: str, name: str) -> List[str]:
-    """All files that `native_of` may make of a module of this name."""
-    output = os.path.join(folder, f"{prefix_of(name)}.c")
-    return [output, f"{output[:-2]}.h", *made_of(output)]
+    """What `native_of` made of a module of this name: nothing if NAME.c isn't its own."""
+    output = output_of(folder, name)
+    return [output, f"{output[:-2]}.h", *made_of(output)] if is_ours(output) else []
+
+
+def output_of(folder: str, name: str) -> str:
+    """The C file of a module."""
+    return os.path.join(folder, f"{prefix_of(name)}.c")
 
 
 def native_of(program: str, stem: str, modules: Iterable[str], folder: str, compiler: str) -> int:
@@ -132,6 +151,6 @@ def native_of(program: str, stem: str, modules: Iterable[str], folder: str, comp
         say(f"blade-native: {fault}", sys.stderr)
         return NO
     os.makedirs(folder, exist_ok=True)
-    output, image = files_of(folder, os.path.basename(stem))[0], Image.at(f"{stem}.img", modules)
+    output, image = output_of(folder, os.path.basename(stem)), Image.at(f"{stem}.img", modules)
     write(image, output, YES)
     return makes(image, Building(compiler), output)

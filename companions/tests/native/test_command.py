@@ -121,6 +121,14 @@ class Command(unittest.TestCase):
             with open(self.path(f"lookup.{ending}"), encoding="ascii") as file:
                 self.assertIn("blade verify says no", file.readline())
 
+    def test_files_of_others_stay(self):
+        found = self.hardened("masked_ssa")
+        for ending in ("c", "h"):
+            self.path(f"a.{ending}", b"int mine;\n")
+            status, printed = self.call(found, "-o", self.path("a.c"))
+            self.assertEqual((status, self.made()), (3, [f"a.{ending}"]), printed)
+            os.unlink(self.path(f"a.{ending}"))
+
     def test_usage(self):
         for words in ([], ["-o", "a-b.c"], ["-o", "int.c"], ["-o", "a.o"], ["--object"], ["--level", "-O9"]):
             self.assertEqual(self.call("x.img", *words)[0], 2, words)

@@ -1,0 +1,161 @@
+"""From a source to an object in which labelled functions are kept: clang's text for LLVM, what labels need in that, and code. Licence: public domain (CC0)."""
+from __future__ import annotations
+
+import os
+import re
+import shlex
+import sys
+from typing import List, Sequence, Set
+
+from ..formats.reading import Bad
+from ..writing import write_file as written_to
+from .arguments import BUILD, LABELS, USAGE, Asked, Stop
+from .opaque import BY_WORDS, Unit, opaque
+from .prototypes import differing
+from .refusals import about_headers
+from .tools import HERE, INCLUDE, Runner, found
+
+# wasm-opt 108 can't read DWARF 5.
+TARGET = ["--target=wasm32", "-mcpu=mvp", "-gdwarf-4"]
+VISIBLE = "-fvisibility=default"  # else clang hides all functions of this target
+WASI = os.environ.get("WASI_SYSROOT", "/usr")  # as Debian's wasi-libc stands there, and wasi-sdk's in its own folder
+WASI_HEADERS = f"{WASI}/include/wasm32-wasi"
+ASSEMBLER = (".s", ".S")
+BEFORE = ["-S", "-emit-llvm", "-Xclang", "-disable-llvm-passes", "-fno-discard-value-names"]
+# Words of the first step that the second one has no use for, by themselves or with the word behind them.
+FIRST = re.compile(r"-(I|D|U|isystem|iquote|idirafter|include|imacros|std|x|M|nostdinc|pedantic|ansi).*")
+FIRST_WITH_NEXT = frozenset("-I -D -U -include -isystem -idirafter -iquote -x -MF -MT -MQ -imacros -isysroot --sysroot -std".split())
+
+
+class Compiler:
+    """Compiles sources by the words of blade-cc."""
+
+    def __init__(self, asked: Asked, runner: Runner) -> None:
+        self.asked, self.runner = asked, runner
+
+    def words(self, source: str) -> List[str]:
+        asked = self.asked
+        words = [found("clang++" if source.endswith((".cc", ".cpp", ".cxx", ".C")) else "clang"), *TARGET, VISIBLE]
+        if not any(flag.startswith("-O") for flag in asked.flags):
+            words.append("-O2")
+        if asked.way:
+            words.append(f"-D{asked.way.upper()}")
+        headers = ["-isystem", INCLUDE, "-isystem", os.path.join(INCLUDE, "freestanding")]
+        if os.path.isdir(WASI_HEADERS):
+            # Its headers ask for the macro.
+            headers += ["-isystem", WASI_HEADERS, "-D__wasi__"]
+        return words + headers + asked.flags
+
+    def compile(self, source: str, to: str, folder: str, last: str = "-c") -> None:
+        """Makes the object of a source, with what stands between in a folder."""
+        refuse_path(source)
+        if source.endswith(ASSEMBLER):
+            self.run([*self.words(source), last, "-o", to, source])
+            return
+        base = f"{folder}/{os.path.splitext(os.path.basename(to))[0]}"
+        text = self.before(source, to, f"{base}.ll")
+        later = any(flag.startswith("-flto") for flag in self.asked.flags)
+        words = [os.path.join(HERE, "blade-cc"), "--keep-labelled", f"{base}.ll", source]
+        self.runner.show([*words, *(["-flto"] if later else []), *[word for label in self.labels() for word in ("--label", label)]], f"{base}.kept.ll")
+        written_to(f"{base}.kept.ll", kept(text, source, self.asked.labels, later).encode("utf-8", "surrogateescape"))
+        self.run([*self.words_behind(source), last, "-o", to, f"{base}.kept.ll"])
+
+    def labels(self) -> List[str]:
+        return [" ".join(self.asked.labels)] if self.asked.labels else []
+
+    def before(self, source: str, to: str, between: str) -> str:
+        """LLVM's text of a source. clang knows some functions by name: where one of them is labelled it is told to forget that."""
+        words = [*self.words(source), *self.depends(to), *BEFORE, "-o", between, source]
+        self.run(words)
+        text = read(between)
+        unit = unit_of(text, source, self.asked.labels)
+        self.refuse_other_order(unit, source)
+        names = self.known_to_clang({named.name for named in unit.known})
+        if names:
+            self.run([*words, *(f"-fno-builtin-{name}" for name in sorted(names))])
+            text = read(between)
+        return text
+
+    def depends(self, to: str) -> List[str]:
+        """Words by which a list of headers is the object's, and stands beside it."""
+        flags = self.asked.flags
+        if not {"-MD", "-MMD"} & set(flags):
+            return []
+        more = [] if {"-MT", "-MQ"} & set(flags) else ["-MT", to]
+        return more + ([] if "-MF" in flags else ["-MF", f"{os.path.splitext(to)[0]}.d"])
+
+    def words_behind(self, source: str) -> List[str]:
+        """The words for the second step."""
+        flags, rest = [], list(self.asked.flags)
+        while rest:
+            word = rest.pop(0)
+            if word in FIRST_WITH_NEXT:
+                rest[:1] = []
+            elif not FIRST.match(word):
+                flags.append(word)
+        head = self.words(source)
+        return [*head[: head.index("-isystem")], *flags, "-Wno-unused-command-line-argument"]
+
+    def refuse_other_order(self, unit: Unit, source: str) -> None:
+        """A declaration may call another parameter so than the definition does: then nobody can tell which one a label means."""
+        for label in unit.labels:
+            named, name = label.named, label.function.name
+            if named.kind == "secret-param" and not named.which.isdigit():
+                words = [*self.words(source), "-fsyntax-only", "-w", "-Xclang", "-ast-dump", "-Xclang", f"-ast-dump-filter={name}", source]
+                if differing(self.runner.run(words, given="").out, name, named.which):
+                    place = source if named.where == BY_WORDS else named.where
+                    raise Stop(LABELS, f"{place}: error: declarations of {name} don't agree which parameter is {named.which}: give the same names, or its "
+                               "number, from 0 [blade-label]")
+
+    def known_to_clang(self, names: Set[str]) -> List[str]:
+        """Those of some names that clang has code of its own for."""
+        plain = sorted(name for name in names if re.fullmatch(r"[A-Za-z_]\w*", name))
+        if not plain:
+            return []
+        asked = " ".join(f"__has_builtin({name})" for name in plain)
+        done = self.runner.run([found("clang"), "--target=wasm32", "-E", "-P", "-x", "c", "-"], given=asked + "\n")
+        return [name for name, answer in zip(plain, done.out.split()) if answer != "0"]
+
+    def run(self, words: Sequence[str]) -> None:
+        done = self.runner.run(words)
+        sys.stdout.write(done.out)
+        sys.stderr.write(done.errors)
+        if done.status:
+            raise Stop(BUILD, *about_headers(done.errors))
+
+
+def refuse_path(source: str) -> None:
+    """A path stands in lines of assembler, which read some letters otherwise."""
+    if not source.isprintable() or "\\" in source or '"' in source:
+        raise Stop(USAGE, f"blade-cc: error: {source}: labels stand in lines with the source's path, and a tab, a line's end, a backslash, a quote or a letter "
+                   "that doesn't print would break them: rename it")
+
+
+def read(path: str) -> str:
+    with open(path, "rb") as file:
+        return file.read().decode("utf-8", "surrogateescape")
+
+
+def unit_of(text: str, source: str, labels: Sequence[str]) -> Unit:
+    try:
+        return Unit(text, os.path.abspath(source), labels)
+    except Bad as bad:
+        raise Stop(LABELS, f"blade-cc: error: {source}: {bad} [blade-label]") from None
+
+
+def kept(text: str, source: str, labels: Sequence[str], is_linked_later: bool) -> str:
+    try:
+        return opaque(text, os.path.abspath(source), labels, is_linked_later)
+    except Bad as bad:
+        raise Stop(LABELS, f"{source}: error: {bad} [blade-label]") from None
+
+
+def keep_labelled(words: Sequence[str]) -> int:
+    """The middle step by itself, to the standard output: blade-cc --keep-labelled FILE.ll SOURCE [-flto] [--label WORDS]."""
+    rest, labels = list(words), []
+    while "--label" in rest:
+        at = rest.index("--label")
+        labels += shlex.split(rest[at + 1])
+        del rest[at : at + 2]
+    sys.stdout.buffer.write(kept(read(rest[0]), rest[1], labels, "-flto" in rest).encode("utf-8", "surrogateescape"))
+    return 0
