@@ -72,8 +72,8 @@ def is_ours(path: str) -> bool:
 
 
 def write(image: Image, output: str, verdict: str) -> None:
-    """Writes NAME.c and NAME.h, but not over files that somebody else wrote. What was compiled from an earlier
-    NAME.c is removed."""
+    """Writes NAME.c and NAME.h, but not over files that somebody else wrote. What was compiled from an
+    earlier NAME.c is removed."""
     for path in (output, f"{output[:-2]}.h"):
         if os.path.lexists(path) and not is_ours(path):
             raise Bad(f"{path} wasn't made by blade-native, and isn't overwritten")
