@@ -14,6 +14,7 @@ WORDS are clang's and, behind -Wl, wasm-ld's. Besides:
     --start [EXPORT=]START   after a no, looks for two runs from a start file that show the leak, for ten seconds (blade-witness)
     --public-callers=F,..    calls inside of the module may give public values for secret parameters of F
     --unlabelled             nothing is declared secret, and that is meant
+    --native                 also writes OUT/native/ (NAME.blade/native/): NAME.c, NAME.h and NAME.o for this machine, if the verdict is yes (blade-native)
     --no-fail                status 0 where the verdict is no, and what is made is kept all the same
     --limit N                at most so many warnings (20)
     --name NAME              the module's name (that of OUT.wasm, or of the only file)
@@ -56,6 +57,7 @@ from .c.declarations import NOTHING, Labelled, base, left_out, with_source
 from .c.sources import Sources
 from .c.tools import HERE, INCLUDE, Ran, Runner, found, program, written_to
 from .formats.module import FUNCTION, Module, module_of, read_module
+from .native.making import files_of, native_of
 from .printing import say
 
 STEPS = "4000000000"  # the most of a run that is counted
@@ -91,10 +93,11 @@ class Driver:
         """What an earlier call wrote says nothing of this one, and make would take it for made."""
         reports = [f"{self.module}.sarif", "report.txt", "verify.txt", "problems.json"]
         self.keep_old()
-        for path in [f"{self.folder}/{name}" for name in self.made() + reports] + [f"{self.aside}/{name}" for name in self.made()] + [self.file]:
+        native = files_of(f"{self.folder}/native", self.module)
+        for path in [f"{self.folder}/{name}" for name in self.made() + reports] + [f"{self.aside}/{name}" for name in self.made()] + [*native, self.file]:
             if path and os.path.lexists(path):
                 os.remove(path)
-        for folder in (f"{self.folder}/build", self.aside):
+        for folder in (f"{self.folder}/build", self.aside, *[f"{self.folder}/native"] * self.asked.native):
             for one in [folder] + [f"{folder}/{name}" for name in (os.listdir(folder) if os.path.isdir(folder) else ())]:
                 if os.path.islink(one):
                     os.remove(one)
@@ -268,6 +271,8 @@ class Driver:
         if self.asked.start and not is_yes:
             evidence, self.explained_by = after_no(self, told, lines, modules, f"{place}/{self.module}")
         self.tell(told, lines, modules, f"{place}/{self.module}")
+        if self.asked.native and is_yes and native_of(self.program, f"{place}/{self.module}", modules, f"{self.folder}/native", found("clang")):
+            raise Stop(BUILD, f"blade-cc: error: {self.module}: blade-native doesn't make an object of it")
         if is_kept and self.file:
             written_to(self.file, read_file(modules[-1], "module"))
         protects = next(line for line in report.splitlines() if line.startswith("protects "))

@@ -51,6 +51,16 @@ def answers(text: str) -> List[Tuple[str, bool]]:
     return [(line[0], line[1:] == ["yes"]) for line in lines]
 
 
+def refused_answers(program: Optional[str], image: str, certificate: str) -> List[str]:
+    """The questions of verify that are answered by no; all of them if it refuses the files. Nothing is printed."""
+    words = [program_of(program), "verify", image, certificate]
+    done = subprocess.run(words, stdin=subprocess.DEVNULL, stdout=subprocess.PIPE, text=True, check=False)
+    if done.returncode not in (YES, NO):
+        return [done.stdout.strip() or f"status {done.returncode}"]
+    no = [name for name, is_yes in answers(done.stdout) if not is_yes]
+    return no or ([] if done.returncode == YES else ["status 1"])
+
+
 def run(words: Sequence[str]) -> int:
     if list(words) in (["--help"], ["-h"]):
         print(__doc__)

@@ -7,10 +7,12 @@ import os
 import random
 import sys
 import unittest
+import unittest.mock
 from typing import Any, Dict, Tuple
 
 from blade_companions.formats.image import Image, read_image
 from blade_companions.formats.running import Run, Start, read_start
+from blade_companions.witnesses import steering
 from blade_companions.witnesses.steering import Choices, Recorded, WrongGuesses, distances
 
 ORACLES = os.path.join(os.path.dirname(os.path.dirname(os.path.dirname(os.path.realpath(__file__)))),
@@ -100,3 +102,13 @@ class Steering(unittest.TestCase):
         away = distances(read_image(self.images["LOOP_IMAGE"]), [21])
         self.assertEqual([away.get(at) for at in range(7, 22)],
                          [12, 11, 10, 9, 8, 7, 6, 5, 4, 11, 10, 3, 2, 1, 0])
+
+    def test_a_trace_that_ends_before_its_run_is_cut(self) -> None:
+        for name, start in STARTS.items():
+            image = read_image(self.images[name])
+            function = next(iter(image.entries.values()))
+            whole = steered(image, function, start, 0, False)[1]
+            self.assertFalse(whole.cut, name)
+            with unittest.mock.patch.object(steering, "LINES", len(whole.lines) - 1):
+                short = steered(image, function, start, 0, False)[1]
+            self.assertTrue(short.cut, name)

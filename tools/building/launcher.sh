@@ -258,12 +258,14 @@ find_unpacked() {
 build_and_run() {
     local kind=$1
     shift
+    local why="it isn't built here"
+    [ ! -f "$here/dist/RECORD" ] || why="$why, dist/ doesn't hold the program of these sources"
     if ! command -v rt > /dev/null; then
-        echo "$name: it isn't built here, and the Rattle kit that builds it is missing (there is no rt); $here/README.md says which kit" >&2
+        echo "$name: $why, and the Rattle kit that builds it is missing (there is no rt); $here/README.md says which kit" >&2
         exit 125
     fi
     if ! command -v python3 > /dev/null; then
-        echo "$name: it isn't built here, and python3, which the Rattle kit needs, is missing" >&2
+        echo "$name: $why, and python3, which the Rattle kit needs, is missing" >&2
         exit 125
     fi
     exec "$here/tools/building/build" "$kind" "$@"

@@ -50,6 +50,7 @@ class Asked:
     alone: bool = False
     verbose: bool = False
     unlabelled: bool = False
+    native: bool = False
     no_fail: bool = False
 
     def is_linked_with(self, word: str) -> bool:
@@ -87,7 +88,7 @@ def setters(asked: Asked) -> Dict[str, Callable[[str], None]]:
 
 SWITCHES: Dict[str, Tuple[str, object]] = {
     "--ledger": ("way", "ledger"), "--vault": ("way", "vault"), "--unlabelled": ("unlabelled", True), "--no-fail": ("no_fail", True),
-    "-v": ("verbose", True)}
+    "--native": ("native", True), "-v": ("verbose", True)}
 
 
 def asked_by(words: Sequence[str]) -> Asked:

@@ -1,0 +1,257 @@
+"""The whole C file of an image, and its header. Licence: public domain (CC0)."""
+from __future__ import annotations
+
+import os
+import re
+from typing import Iterator, List, NamedTuple, Optional, Tuple
+
+from .emission import Emission, FunctionEmission
+from .exactness import check_exactness
+from .header import Export, header, heading
+from .names import export_names
+from .operators import C_TYPES
+from .origin import Origin
+from .reading import Module
+from .widths import widths_of
+
+HERE = os.path.dirname(os.path.realpath(__file__))
+TEXTS = (
+    "returned",
+    "unreachable",
+    "integer divide by zero",
+    "integer overflow",
+    "out of bounds memory access",
+    "undefined element",
+    "uninitialized element",
+    "indirect call type mismatch",
+    "call stack exhausted",
+    "the stack of C is too small",
+)
+INCLUDES = ("setjmp.h", "stddef.h", "stdlib.h", "string.h", "sys/mman.h")
+ROW = 16
+
+
+class Translation(NamedTuple):
+    """The texts of NAME.c and of NAME.h."""
+
+    source: str
+    header: str
+
+
+def part(name: str) -> str:
+    """A text that all images share."""
+    with open(f"{HERE}/{name}", encoding="ascii") as file:
+        return file.read()
+
+
+def segments(module: Module) -> Iterator[Tuple[int, int, bytes]]:
+    """The first contents of memories: the memory, the place, the bytes of rows that follow each other."""
+    for number, memory in enumerate(module.program.memories):
+        first, found = 0, b""
+        for row, contents in memory.rows:
+            if found and row * ROW != first + len(found):
+                yield number, first, found
+                found = b""
+            first = first if found else row * ROW
+            found += contents
+        if found:
+            yield number, first, found
+
+
+def instance(emission: Emission) -> List[str]:
+    """The instance's fields."""
+    memories, name = len(emission.program.memories), emission.name
+    fields = [f"    {C_TYPES[kind]} g{number};" for number, kind in enumerate(emission.module.global_types)]
+    if memories:
+        fields += [f"    uint8_t *memory[{memories}];", f"    uint32_t pages[{memories}];"]
+    return [
+        f"typedef struct {name} instance;",
+        f"struct {name} {{",
+        "    jmp_buf home;",
+        "    int end;",
+        *fields,
+        "};",
+        "",
+    ]
+
+
+def data(module: Module) -> List[str]:
+    """The first contents of memories as arrays, and how they are written."""
+    lines, calls = [], []
+    for number, (memory, first, contents) in enumerate(segments(module)):
+        rows = [contents[at : at + ROW] for at in range(0, len(contents), ROW)]
+        lines.append(f"static const uint8_t data{number}[{len(contents)}] = {{")
+        lines += ["    " + " ".join(f"{byte}," for byte in row) for row in rows]
+        lines.append("};")
+        calls.append(f"    memcpy(m->memory[{memory}] + {first}u, data{number}, sizeof data{number});")
+    return [*lines, "static void fill(instance *m)", "{", "    (void)m;", *calls, "}", ""]
+
+
+def life(emission: Emission) -> List[str]:
+    """The making, the reset and the end of an instance."""
+    name, memories = emission.name, emission.program.memories
+    numbers = range(len(memories))
+    make = "\n".join(
+        f"    m->memory[{at}] = new_memory({one.reserve});\n"
+        f"    if (!m->memory[{at}]) {{ {name}_free(m); return NULL; }}"
+        for at, one in enumerate(memories)
+    )
+    wipe = "\n".join(f"    wipe(m->memory[{at}], m->pages[{at}] * PAGE);" for at in numbers)
+    begin = "\n".join(
+        [
+            *(f"    m->pages[{at}] = {one.pages}u;" for at, one in enumerate(memories)),
+            *(f"    m->g{at} = UINT64_C({one.value});" for at, one in enumerate(emission.program.globals)),
+        ]
+    )
+    free = "\n".join(f"    free_memory(m->memory[{at}], m->pages[{at}]);" for at in numbers)
+    return f"""void {name}_free({name} *m)
+{{
+    if (!m) return;
+{free}
+    wipe(m, sizeof *m);
+    free(m);
+}}
+
+void {name}_reset({name} *m)
+{{
+{wipe}
+    wipe(&m->home, sizeof m->home);
+{begin}
+    fill(m);
+}}
+
+{name} *{name}_new(void)
+{{
+    {name} *m = calloc(1, sizeof *m);
+    if (!m) return NULL;
+{make}
+    {name}_reset(m);
+    return m;
+}}
+""".split(
+        "\n"
+    )
+
+
+def entry(emission: Emission, export: Export) -> List[str]:
+    """The function of an export."""
+    results = list(emission.results(export.number))
+    words = ["m"] + ["1u"] * emission.counts_depth + list(export.parameters(emission))
+    call = f"f{export.number}({', '.join(words)});"
+    if len(results) == 1:
+        call = f"*r0 = {call}"
+    elif results:
+        given = " ".join(f"*r{index} = r.r{x};" for index, x in enumerate(results))
+        call = f"struct results{export.number} r = {call} {given}"
+    return f"""{heading(emission, export)}
+{{
+    if (!HAS_STACK) return {emission.name.upper()}_STACK_TOO_SMALL;
+    if (setjmp(m->home)) return ({emission.name}_end)m->end;
+    {call}
+    return {emission.name.upper()}_OK;
+}}
+""".split(
+        "\n"
+    )
+
+
+def copies(emission: Emission, word: str, kind: str, bytes_: str, line: str) -> str:
+    """A function that reads or writes some bytes of a memory. Under a wrong guess, too, it stays within the
+    memory."""
+    memories, name = len(emission.program.memories), emission.name
+    if memories:
+        body = f"""    uint32_t is_inside = holds(m->pages, {memories}u, &memory, offset, size);
+    offset = select32(offset, 0, is_inside);
+    size = select32(size, 0, is_inside);
+    if (size) {line}
+    return (int)is_inside;"""
+    else:
+        unused = " ".join(
+            f"(void){it};" for it in ("m", "memory", "offset", bytes_.rpartition("*")[2], "size")
+        )
+        body = f"    {unused}\n    return 0;"
+    head = f"int {name}_{word}({kind} *m, uint32_t memory, uint32_t offset, {bytes_}, uint32_t size)"
+    return f"{head}\n{{\n{body}\n}}\n"
+
+
+def accessors(emission: Emission) -> List[str]:
+    """The functions on memories and globals, and the texts of ends."""
+    name, memories, types = emission.name, len(emission.program.memories), emission.module.global_types
+    gets = "".join(f"    case {at}: *value = m->g{at}; return 1;\n" for at in range(len(types)))
+    sets = "".join(
+        f"    case {at}: m->g{at} = ({C_TYPES[kind]})value; return 1;\n" for at, kind in enumerate(types)
+    )
+    pages = f"memory < {memories}u ? m->pages[memory] : 0" if memories else "0"
+    texts = ", ".join(f'"{text}"' for text in TEXTS)
+    read = copies(
+        emission, "read", f"const {name}", "void *to", "memcpy(to, m->memory[memory] + offset, size);"
+    )
+    write = copies(
+        emission, "write", name, "const void *from", "memcpy(m->memory[memory] + offset, from, size);"
+    )
+    return f"""uint32_t {name}_pages(const {name} *m, uint32_t memory)
+{{
+    (void)m; (void)memory;
+    return {pages};
+}}
+
+{read}
+{write}
+int {name}_global(const {name} *m, uint32_t global, uint64_t *value)
+{{
+    (void)m; (void)value;
+    switch (global) {{
+{gets}    default: return 0;
+    }}
+}}
+
+int {name}_set_global({name} *m, uint32_t global, uint64_t value)
+{{
+    (void)m; (void)value;
+    switch (global) {{
+{sets}    default: return 0;
+    }}
+}}
+
+const char *{name}_end_text({name}_end end)
+{{
+    static const char *const texts[] = {{{texts}}};
+    return (unsigned)end < sizeof texts / sizeof *texts ? texts[end] : "unknown";
+}}
+""".split(
+        "\n"
+    )
+
+
+def exports_of(module: Module, origin: Optional[Origin] = None) -> List[Export]:
+    """The exports, with the names of parameters that the module gives."""
+    found = []
+    for word, number, name in export_names(module.program.exports):
+        count = len(module.parameter_types[number])
+        found.append(Export(word, number, name, origin.parameters(number, count) if origin else ()))
+    return found
+
+
+def translate(
+    module: Module, name: str, verdict: str = "not verified", origin: Optional[Origin] = None
+) -> Translation:
+    """The C of an image; one that C's variables can't stand for is refused."""
+    check_exactness(module)
+    verdict = re.sub(r"[^a-z0-9 :,.-]", "?", verdict)  # it goes into a comment of C
+    emission = Emission(module, widths_of(module), name)
+    exports = exports_of(module, origin)
+    includes = "".join(f"#include <{one}>\n" for one in INCLUDES)
+    head = f"""/* Made by blade-native ({verdict}): compile it with `blade-native --object`. */
+#define _GNU_SOURCE
+#include "{name}.h"
+{includes}
+{part("prelude.h")}
+"""
+    lines = head.split("\n")[:-1] + instance(emission) + part("runtime.c").split("\n") + data(module)
+    lines += emission.declarations() + [""]
+    for number in range(len(module.program.functions)):
+        lines += FunctionEmission(emission, number).lines(len(lines) + 1)
+    for export in exports:
+        lines += entry(emission, export)
+    lines += life(emission) + accessors(emission)
+    return Translation("\n".join(lines), header(emission, exports, verdict))
