@@ -8,6 +8,7 @@ import sys
 from typing import List, Sequence, Set
 
 from ..formats.reading import Bad
+from ..printing import printable
 from ..writing import write_file as written_to
 from .arguments import BUILD, LABELS, USAGE, Asked, Stop
 from .opaque import BY_WORDS, Unit, opaque
@@ -130,7 +131,7 @@ class Compiler:
 def refuse_path(source: str) -> None:
     """A path stands in lines of assembler, which read some letters otherwise."""
     if not source.isprintable() or "\\" in source or '"' in source:
-        raise Stop(USAGE, f"blade-cc: error: {source}: labels stand in lines with the source's path, and a tab, a line's end, a backslash, a quote or a letter "
+        raise Stop(USAGE, f"blade-cc: error: {printable(source)}: labels stand in lines with the source's path, and a tab, a line's end, a backslash, a quote or a letter "
                    "that doesn't print would break them: rename it")
 
 
