@@ -106,7 +106,8 @@ class Compiler:
                 bare = name.partition("<")[0]
                 words = [*self.words(source), "-fsyntax-only", "-w", "-Xclang", "-ast-dump", "-Xclang", f"-ast-dump-filter={bare}",
                          "-fno-color-diagnostics", source]
-                if differing(self.runner.run(words, given="").out, bare, named.which):
+                # The tree of an instance doesn't show which declaration it comes of.
+                if "<" in name or differing(self.runner.run(words, given="").out, bare, named.which):
                     place = source if named.where == BY_WORDS else named.where
                     raise Stop(LABELS, f"{place}: error: declarations of {name} don't agree which parameter is {named.which}: give the same names, or its "
                                "number, from 0 [blade-label]")
