@@ -57,11 +57,18 @@ from .c.declarations import NOTHING, Labelled, base, left_out, with_source
 from .c.sources import Sources
 from .c.tools import HERE, INCLUDE, Ran, Runner, found, program, written_to
 from .formats.module import FUNCTION, Module, module_of, read_module
-from .native.making import files_of, native_of
 from .printing import say
 
 STEPS = "4000000000"  # the most of a run that is counted
 MADE = ("wasm", "img", "json")  # of the module: what blade-cc makes where the verdict is yes
+
+
+def native_files(folder: str, name: str) -> List[str]:
+    """What an earlier call made by --native, if there is anything."""
+    if not os.path.isdir(folder):
+        return []
+    from .native.making import files_of
+    return files_of(folder, name)
 
 
 class Driver:
@@ -93,7 +100,7 @@ class Driver:
         """What an earlier call wrote says nothing of this one, and make would take it for made."""
         reports = [f"{self.module}.sarif", "report.txt", "verify.txt", "problems.json"]
         self.keep_old()
-        native = files_of(f"{self.folder}/native", self.module)
+        native = native_files(f"{self.folder}/native", self.module)
         for path in [f"{self.folder}/{name}" for name in self.made() + reports] + [f"{self.aside}/{name}" for name in self.made()] + [*native, self.file]:
             if path and os.path.lexists(path):
                 os.remove(path)
@@ -271,8 +278,8 @@ class Driver:
         if self.asked.start and not is_yes:
             evidence, self.explained_by = after_no(self, told, lines, modules, f"{place}/{self.module}")
         self.tell(told, lines, modules, f"{place}/{self.module}")
-        if self.asked.native and is_yes and native_of(self.program, f"{place}/{self.module}", modules, f"{self.folder}/native", found("clang")):
-            raise Stop(BUILD, f"blade-cc: error: {self.module}: blade-native doesn't make an object of it")
+        if self.asked.native and is_yes:
+            self.make_native(f"{place}/{self.module}", modules)
         if is_kept and self.file:
             written_to(self.file, read_file(modules[-1], "module"))
         protects = next(line for line in report.splitlines() if line.startswith("protects "))
@@ -295,6 +302,13 @@ class Driver:
         seen, protects = find(image), protects_of(image, read_certificate(read_file(f"{made}.json")))
         differ += compare.report_differs(seen, protects, report)
         return diagnostics.told_of(seen, lines, causes_of(seen, lines), protects), lines, differ
+
+    def make_native(self, made: str, modules: List[str]) -> None:
+        """Native code of the image. Its reader of images is in formats/, next to companions/, which nothing else
+        here needs: so it is imported only now."""
+        from .native.making import native_of
+        if native_of(self.program, made, modules, f"{self.folder}/native", found("clang")):
+            raise Stop(BUILD, f"blade-cc: error: {self.module}: blade-native doesn't make an object of it")
 
     def tell(self, told: diagnostics.Told, lines: Lines, modules: List[str], made: str) -> None:
         """The places: as text, as JSON and as SARIF."""
