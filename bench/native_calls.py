@@ -32,8 +32,8 @@ BULK: Dict[str, Tuple[List[int], int]] = {  # arguments on large inputs, and whe
 
 
 class Call(NamedTuple):
-    """A call that can be repeated: modules in the order of linking, the function, arguments and first contents
-    of memories."""
+    """A call that can be repeated: modules in the order of linking, the function, arguments and first
+    contents of memories."""
 
     name: str
     modules: List[str]
@@ -65,7 +65,8 @@ def bulk(name: str, way: str, folder: str) -> Call:
 
 
 def small() -> List[Call]:
-    """Two examples: a list whose every pointer is loaded, and numbers of which each sixteenth is looked up."""
+    """Two examples: a list whose every pointer is loaded, and numbers of which each sixteenth is looked
+    up."""
     items = b"".join(
         (at * 3).to_bytes(4, "little") + (2048 + 8 * (at + 1) if at < 499 else 0).to_bytes(4, "little")
         for at in range(500)
@@ -90,7 +91,8 @@ def run(words: List[str], statuses=(0,), folder: Optional[str] = None) -> str:
     done = subprocess.run(words, capture_output=True, text=True, check=False, env=environment, cwd=folder)
     if done.returncode not in statuses:
         raise SystemExit(
-            f"bench/native: {' '.join(words)[:300]}: status {done.returncode}: {(done.stdout + done.stderr)[-500:]}"
+            f"bench/native: {' '.join(words)[:300]}: status {done.returncode}: "
+            f"{(done.stdout + done.stderr)[-500:]}"
         )
     return done.stdout
 

@@ -3,12 +3,14 @@
     read.py IMAGE                what the image has: functions, commands, sites, protects
     read.py IMAGE CERTIFICATE    the verdicts: certificate, stable, constant-time, safe
 
-It was written from FORMATS.md alone, by someone who saw nothing else of the project, to find out whether the page suffices; only the limits
-of files came later, when the page said how they are told. It is a second reading of the page and no judge: where it and the program differ,
-one of them is wrong, and what they agree on is proved by the program alone. tools/checks/formats compares them.
+It was written from FORMATS.md alone, by someone who saw nothing else of the project, to find out whether the
+page suffices; only the limits of files came later, when the page said how they are told. It is a second
+reading of the page and no judge: where it and the program differ, one of them is wrong, and what they agree
+on is proved by the program alone. tools/checks/formats compares them.
 
-"rule N" in a name is its number on the page. The order here: an image's bytes, the program that they spell, the rules of programs,
-certificates, and which variables are transient or secret. Licence: public domain (CC0).
+"rule N" in a name is its number on the page. The order here: an image's bytes, the program that they spell,
+the rules of programs, certificates, and which variables are transient or secret.
+Licence: public domain (CC0).
 """
 import json
 import re
@@ -20,19 +22,24 @@ SET, LOAD, STORE, TEST, JUMP, ARG, CALL, OUT, RET, TRAP = range(10)
 MOVE, OUTSIDE, I32_GT_U, I32_ADD, I32_SUB, SELECT = 0x00, 0x01, 0x4B, 0x6A, 0x6B, 0x1B
 QUOTIENTS = (*range(0x6D, 0x71), *range(0x7F, 0x83))
 I64, VARIABLE, CONSTANT, TRAPS, ROW, PAGE, MOST_COMMANDS = 0x7E, 0, 1, 7, 16, 65536, 1048576
-PROTECTED = 8                                                    # the bit of a mark; the lower ones are the depth
+# the bit of a mark; the lower ones are the depth
+PROTECTED = 8
 
 FIELDS = {SET: "mark operator variable operands", LOAD: "mark load memory variable offset operand",
           STORE: "store memory offset operand operand", TEST: "operand target target", JUMP: "target",
-          ARG: "mark function index operand", CALL: "function", OUT: "mark index operand", RET: "", TRAP: "kind"}
+          ARG: "mark function index operand", CALL: "function", OUT: "mark index operand", RET: "",
+          TRAP: "kind"}
 TWO = (*range(0x46, 0x50), *range(0x51, 0x5B), *range(0x6A, 0x79), *range(0x7C, 0x8B))
 OPERATORS = dict.fromkeys(bytes.fromhex("00 45 50 67 68 69 79 7A 7B A7 AC AD C0 C1 C2 C3 C4"), 1)
 OPERATORS.update(dict.fromkeys(TWO, 2))
 OPERATORS.update({OUTSIDE: 3, SELECT: 3})                        # how many operands each takes
-LOADS = {0x28: 4, 0x29: 8, 0x2C: 1, 0x2D: 1, 0x2E: 2, 0x2F: 2, 0x30: 1, 0x31: 1, 0x32: 2, 0x33: 2, 0x34: 4, 0x35: 4}
+LOADS = {0x28: 4, 0x29: 8, 0x2C: 1, 0x2D: 1, 0x2E: 2, 0x2F: 2, 0x30: 1, 0x31: 1, 0x32: 2, 0x33: 2, 0x34: 4,
+         0x35: 4}
 STORES = {0x36: 4, 0x37: 8, 0x3A: 1, 0x3B: 2, 0x3C: 1, 0x3D: 2, 0x3E: 4}    # how many bytes each accesses
-BYTES = {"version": (1, 2), "type": (0x7F, I64), "label": (0, 1), "demanded": (0, 1), "code": FIELDS, "spelling": (VARIABLE, CONSTANT),
-         "mark": (*range(7), *range(8, 15)), "operator": OPERATORS, "load": LOADS, "store": STORES, "kind": range(8)}
+BYTES = {"version": (1, 2), "type": (0x7F, I64), "label": (0, 1), "demanded": (0, 1), "code": FIELDS,
+         "spelling": (VARIABLE, CONSTANT),
+         "mark": (*range(7), *range(8, 15)), "operator": OPERATORS, "load": LOADS, "store": STORES,
+         "kind": range(8)}
 
 Operand = namedtuple("Operand", "spelling number")
 Global = namedtuple("Global", "type secret value")
@@ -145,7 +152,8 @@ class Command:
     __slots__ = "code owner mark operator width memory variable offset function index kind operands targets".split()
 
     def __init__(self, image, owner):
-        """Reads one of a function. A field is an attribute, but for the operands and targets, and a width for load or store."""
+        """Reads one of a function. A field is an attribute, but for the operands and targets, and a width for
+        load or store."""
         self.code, self.owner, self.operands, self.targets = image.field("code"), owner, [], []
         self.mark = self.operator = self.width = self.memory = self.variable = self.offset = self.function = self.index = 0
         for name in FIELDS[self.code].split():
@@ -168,11 +176,13 @@ class Command:
 
     def reads(self):
         """The variables that it reads, as a site."""
-        return [number for spelling, number in self.operands if spelling == VARIABLE and self.code in (SET, ARG, OUT)]
+        return [number for spelling, number in self.operands if spelling == VARIABLE
+                and self.code in (SET, ARG, OUT)]
 
     def sinks(self):
         """The variables that its sinks read."""
-        operands = self.operands[:{SET: 2 * (self.operator in QUOTIENTS), TEST: 1, LOAD: 1, STORE: 1}.get(self.code, 0)]
+        operands = self.operands[:{SET: 2 * (self.operator in QUOTIENTS), TEST: 1, LOAD: 1,
+                                   STORE: 1}.get(self.code, 0)]
         return [number for spelling, number in operands if spelling == VARIABLE]
 
     def is_set(self, operator, *operands):
@@ -194,7 +204,8 @@ class Program:
             raise NOT_IMAGE
         version = image.field("version")
         self.globals = image.many(lambda: Global(*image.fields("type label"), image.number(64)))
-        self.memories = image.many(lambda: Memory(*image.fields("pages reserve label"), image.gaps(lambda: image.some(ROW))))
+        self.memories = image.many(lambda: Memory(*image.fields("pages reserve label"),
+                                                  image.gaps(lambda: image.some(ROW))))
         self.functions = image.many(lambda: Function(image))
         self.exports = image.many(lambda: (image.some(image.number(64)), image.number()), 64)
         self.demands = image.many(image.demand) if version == 2 else []
@@ -260,25 +271,30 @@ class Rules:
         for memory in self.program.memories:
             if not memory.pages <= memory.reserve <= 256:
                 return False
-            if any(row == bytes(ROW) or number * ROW + ROW > memory.pages * PAGE for number, row in memory.rows):
+            if any(row == bytes(ROW) or number * ROW + ROW > memory.pages * PAGE
+                   for number, row in memory.rows):
                 return False
         return sum(memory.reserve for memory in self.program.memories) <= 1024
 
     def rule_2(self):
         """How much there is of all, and the globals' values."""
         program = self.program
-        return (len(program.functions) <= 80000 and program.variables < 1 << 31 and program.length <= MOST_COMMANDS
-                and all(f.length >= 1 and f.variables >= len(f.parameters) + f.results for f in program.functions)
+        return (len(program.functions) <= 80000 and program.variables < 1 << 31
+                and program.length <= MOST_COMMANDS
+                and all(f.length >= 1 and f.variables >= len(f.parameters) + f.results
+                        for f in program.functions)
                 and all(global_.type == I64 or global_.value < 1 << 32 for global_ in program.globals))
 
     def rule_3(self):
         """Exports."""
         exports, functions = self.program.exports, len(self.program.functions)
-        return len({name for name, _ in exports}) == len(exports) and all(number < functions for _, number in exports)
+        return len({name for name, _ in exports}) == len(exports) and all(number < functions
+                                                                          for _, number in exports)
 
     def rule_9(self):
         """Demands and weights."""
-        program, demands, sites = self.program, self.program.demands, [position for position, _ in self.program.sites]
+        program, demands, sites = self.program, self.program.demands, [position
+                                                                       for position, _ in self.program.sites]
         return (all(former < demand for former, demand in zip(demands, demands[1:]))
                 and all(self.may_demand(*demand) for demand in demands)
                 and program.weights.keys() <= set(sites) and 0 not in program.weights.values()
@@ -299,7 +315,8 @@ class Rules:
     def rule_4(self, _position, command):
         """Variables."""
         owner, written = command.owner, command.variable
-        if not all(self.may_read(owner, number) for spelling, number in command.operands if spelling == VARIABLE):
+        if not all(self.may_read(owner, number) for spelling, number in command.operands
+                   if spelling == VARIABLE):
             return False
         return command.code not in (SET, LOAD) or written < self.program.shared or owner.has_local(written)
 
@@ -330,12 +347,14 @@ class Rules:
         outside, test = self.program.at(position - 2), self.program.at(position - 1)
         address, end = command.operands[0], Operand(CONSTANT, command.offset + command.width)
         return (outside.is_set(OUTSIDE, address, self.program.size(command.memory), end)
-                and command.owner.has_local(outside.variable) and address != Operand(VARIABLE, outside.variable)
+                and command.owner.has_local(outside.variable)
+                and address != Operand(VARIABLE, outside.variable)
                 and test.is_test(outside.variable, position)
                 and self.named[position - 1] == 0 and self.named[position] == 1)
 
     def rule_8(self, position, command):
-        """The check in front of a Set of a size at p. That `yes` isn't p - 1 needs no look: p - 1 is named once."""
+        """The check in front of a Set of a size at p. That `yes` isn't p - 1 needs no look: p - 1 is named
+        once."""
         memory = command.variable - len(self.program.globals)
         if command.code not in (SET, LOAD) or not 0 <= memory < len(self.program.memories):
             return True
@@ -348,10 +367,12 @@ class Rules:
                 and above.is_set(I32_GT_U, added, Operand(VARIABLE, room.variable))
                 and test.is_test(above.variable, position - 1) and old.is_set(MOVE, size)
                 and all(command.owner.has_local(v) and added != Operand(VARIABLE, v) for v in written)
-                and not any(self.named[position - back] for back in (3, 2, 0)) and self.named[position - 1] == 1)
+                and not any(self.named[position - back] for back in (3, 2, 0))
+                and self.named[position - 1] == 1)
 
 
-TOKENS = re.compile(r"\\u[dD][89abAB][0-9a-fA-F]{2}\\u[dD][c-fC-F][0-9a-fA-F]{2}"     # a surrogate pair: nothing to look at
+# a surrogate pair: nothing to look at
+TOKENS = re.compile(r"\\u[dD][89abAB][0-9a-fA-F]{2}\\u[dD][c-fC-F][0-9a-fA-F]{2}"
                     r"|(?P<half>\\u[dD][89a-fA-F])|\\.|[\"\[\]{}]", re.DOTALL)
 
 
@@ -369,7 +390,8 @@ def check_json(text):
 
 
 def json_number(text):
-    """What a number in a JSON text says: an int, or None where it has another shape. So long ones are too large anyway."""
+    """What a number in a JSON text says: an int, or None where it has another shape. So long ones are too
+    large anyway."""
     if abs(float(text)) == float("inf"):
         raise NOT_JSON
     return int(text) if text.isdigit() and len(text) <= 20 else None
@@ -381,9 +403,11 @@ def not_json(_constant):
 
 
 def fits(value, shape):
-    """Whether a value has a shape: an object of just these keys, an array of such items, or a number of so many bits."""
+    """Whether a value has a shape: an object of just these keys, an array of such items, or a number of so
+    many bits."""
     if type(shape) is dict:
-        return type(value) is dict and value.keys() == shape.keys() and all(fits(value[key], shape[key]) for key in shape)
+        return type(value) is dict and value.keys() == shape.keys() and all(fits(value[key], shape[key])
+                                                                            for key in shape)
     if type(shape) is list:
         return type(value) is list and all(fits(item, shape[0]) for item in value)
     return type(value) is int and value < 1 << shape
@@ -452,7 +476,8 @@ def unstable(program):
     """The least position of a sink that reads a transient variable, else None."""
     sites = [command for _, command in program.sites if not command.is_protected()]
     transient = spread(program, [command.variable for command in sites if command.code == LOAD], sites)
-    sinks = (p for p, command in enumerate(program.commands, TRAPS) if transient.intersection(command.sinks()))
+    sinks = (p for p, command in enumerate(program.commands, TRAPS)
+             if transient.intersection(command.sinks()))
     return next(sinks, None)
 
 
@@ -462,9 +487,11 @@ def is_constant_time(program):
     begin = [number for number, global_ in enumerate(program.globals) if global_.secret]
     for function in program.functions:
         begin += [function.first + index for index, secret in enumerate(function.parameters) if secret]
-    begin += [command.variable for command in sites if command.code == LOAD and program.memories[command.memory].secret]
+    begin += [command.variable for command in sites if command.code == LOAD
+              and program.memories[command.memory].secret]
     secret = spread(program, begin, sites)
-    learnt = [index[0] if kind == 1 else program.functions[index[0]].result(index[1]) for kind, *index in program.demands]
+    learnt = [index[0] if kind == 1 else program.functions[index[0]].result(index[1])
+              for kind, *index in program.demands]
     for command in program.commands:
         learnt += command.sinks()
         if command.code == STORE and not program.memories[command.memory].secret:
@@ -483,7 +510,8 @@ def describe(program):
 
 def verify(program, paths, weight):
     """Prints the verdicts; gives the status."""
-    broken, sink, constant_time = broken_rule(program, paths, weight), unstable(program), is_constant_time(program)
+    broken, sink, constant_time = broken_rule(program, paths,
+                                              weight), unstable(program), is_constant_time(program)
     print("certificate yes" if broken is None else "certificate no %d %d" % broken)
     print("stable yes" if sink is None else "stable no %d" % sink)
     print("constant-time", "yes" if constant_time else "no")

@@ -1,6 +1,6 @@
 #!/usr/bin/env python3
-"""Prints the modules of `examples/` as arrays, as they are committed there, but for the section `blade.sum` behind
-the labels, which only tools read. usage: python3 oracles/examples.py"""
+"""Prints the modules of `examples/` as arrays, as they are committed there, but for the section `blade.sum`
+behind the labels, which only tools read. usage: python3 oracles/examples.py"""
 import pathlib
 
 HERE = pathlib.Path(__file__).resolve().parent

@@ -60,8 +60,8 @@ def ladder(rungs):
 
 
 def bundle(places, rounds):
-    """Rails to and from rounds, and places of weight 1 between two hubs. Each round's paths are longer, and take back what the paths of
-    the round before put on the places."""
+    """Rails to and from rounds, and places of weight 1 between two hubs. Each round's paths are longer, and
+    take back what the paths of the round before put on the places."""
     n = Network([1_000_000, 1_000_000, None, None, None, None], [(0, 2), (3, 1)], [0], [1])
 
     def through(start, weight, end):
@@ -84,7 +84,8 @@ def bundle(places, rounds):
 
 
 def circled():
-    """The same beside a circle: of 1000 that can leave its start 4 come to the end, and the way out of the circle that is shorter takes 3."""
+    """The same beside a circle: of 1000 that can leave its start 4 come to the end, and the way out of the
+    circle that is shorter takes 3."""
     n = bundle(12, 12)
     start = n.node(1000)
     circle = [n.node(None) for _ in range(4)]

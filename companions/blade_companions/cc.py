@@ -1,7 +1,8 @@
-"""From C to a verdict in one command: compiles, links, labels, hardens, verifies, and tells by lines of C where a secret goes. It runs clang, wasm-ld,
-wasm-opt and blade; -v shows how. Licence: public domain (CC0).
+"""From C to a verdict in one command: compiles, links, labels, hardens, verifies, and tells by lines of C
+where a secret goes. It runs clang, wasm-ld, wasm-opt and blade; -v shows how. Licence: public domain (CC0).
 
-    blade-cc [WORDS] FILE.c .. [-o OUT]        writes OUT/ (NAME.blade): NAME.wasm, labelled; NAME.img, NAME.json; report.txt, problems.json, NAME.sarif
+    blade-cc [WORDS] FILE.c .. [-o OUT]        writes OUT/ (NAME.blade): NAME.wasm, labelled; NAME.img,
+                                               NAME.json; report.txt, problems.json, NAME.sarif
     blade-cc [WORDS] FILE.o .. -o NAME.wasm    the same, with the rest in NAME.blade/: for make and CMake
     blade-cc [WORDS] -c FILE.c -o FILE.o       compiles alone
 
@@ -9,22 +10,27 @@ WORDS are clang's and, behind -Wl, wasm-ld's. Besides:
     --label 'KIND NAME ..'   labels as blade-label takes them, beside those of blade.h in the sources
     --ledger, --vault        with -DLEDGER or -DVAULT, and the module of the accessors
     --memory PAGES           so many pages of memory, first and last (3, or as many as the data takes and one)
-    --export NAME            exports this function, and only such (all that the objects give to others, where the code doesn't say)
+    --export NAME            exports this function, and only such (all that the objects give to others,
+                             where the code doesn't say)
     --counts [EXPORT=]START  sets protects by the counts of a run from a start file; may be given again
-    --start [EXPORT=]START   after a no, looks for two runs from a start file that show the leak, for ten seconds (blade-witness)
+    --start [EXPORT=]START   after a no, looks for two runs from a start file that show the leak, for ten
+                             seconds (blade-witness)
     --public-callers=F,..    calls inside of the module may give public values for secret parameters of F
     --unlabelled             nothing is declared secret, and that is meant
-    --native                 also writes OUT/native/ (NAME.blade/native/): NAME.c, NAME.h and NAME.o for this machine, if the verdict is yes (blade-native)
+    --native                 also writes OUT/native/ (NAME.blade/native/): NAME.c, NAME.h and NAME.o for this
+                             machine, if the verdict is yes (blade-native)
     --no-fail                status 0 where the verdict is no, and what is made is kept all the same
     --limit N                at most so many warnings (20)
     --name NAME              the module's name (that of OUT.wasm, or of the only file)
     --blade PROGRAM          the program (BLADE, else the one of this repository or release, else blade)
     -v                       shows each command, as it could be typed
 
-OUT is a file where it has an ending, or where nothing but objects is given; a folder by a / at its end, or else. Where the verdict is no, what is made stands
-in OUT/refused/ alone, and the folder is marked as old, so that make doesn't take it for made.
-Status: 0 constant-time; 1 not; 2 usage; 3 clang or the linker failed; 4 a tool is missing or too old; 5 the labels aren't right, or there are none;
-6 blade refuses the module, or a run for --counts fails; 7 two tools don't agree."""
+OUT is a file where it has an ending, or where nothing but objects is given; a folder by a / at its end, or
+else. Where the verdict is no, what is made stands in OUT/refused/ alone, and the folder is marked as old, so
+that make doesn't take it for made.
+Status: 0 constant-time; 1 not; 2 usage; 3 clang or the linker failed; 4 a tool is missing or too old; 5 the
+labels aren't right, or there are none; 6 blade refuses the module, or a run for --counts fails; 7 two tools
+don't agree."""
 from __future__ import annotations
 
 import fcntl
@@ -72,7 +78,8 @@ def native_files(folder: str, name: str) -> List[str]:
 
 
 class Driver:
-    """The steps, in a folder: build/ has what is on the way, refused/ what isn't judged yet or isn't constant-time."""
+    """The steps, in a folder: build/ has what is on the way, refused/ what isn't judged yet or isn't
+    constant-time."""
 
     def __init__(self, asked: Asked) -> None:
         self.asked, self.runner = asked, Runner(asked.verbose)
@@ -81,7 +88,8 @@ class Driver:
         out = asked.out or f"{self.module}.blade/"
         out = f"./{out}" if out.startswith("-") else out  # no tool takes it for a word
         # A linker's output is a file, and so is what has an ending.
-        is_file = not out.endswith("/") and not os.path.isdir(out) and bool(os.path.splitext(out)[1] or not asked.sources)
+        is_named_so = bool(os.path.splitext(out)[1] or not asked.sources)
+        is_file = not out.endswith("/") and not os.path.isdir(out) and is_named_so
         self.file = out if is_file else ""
         self.folder = f"{os.path.splitext(out)[0]}.blade" if self.file else out.rstrip("/")
         if self.file and not asked.name:
@@ -101,23 +109,27 @@ class Driver:
         reports = [f"{self.module}.sarif", "report.txt", "verify.txt", "problems.json"]
         self.keep_old()
         native = native_files(f"{self.folder}/native", self.module)
-        for path in [f"{self.folder}/{name}" for name in self.made() + reports] + [f"{self.aside}/{name}" for name in self.made()] + [*native, self.file]:
+        named = [f"{self.folder}/{name}" for name in self.made() + reports]
+        for path in [*named, *(f"{self.aside}/{name}" for name in self.made()), *native, self.file]:
             if path and os.path.lexists(path):
                 os.remove(path)
         for folder in (f"{self.folder}/build", self.aside, *[f"{self.folder}/native"] * self.asked.native):
-            for one in [folder] + [f"{folder}/{name}" for name in (os.listdir(folder) if os.path.isdir(folder) else ())]:
+            names = os.listdir(folder) if os.path.isdir(folder) else []
+            for one in [folder, *(f"{folder}/{name}" for name in names)]:
                 if os.path.islink(one):
                     os.remove(one)
             os.makedirs(folder, exist_ok=True)
         self.keep_old()
 
     def keep_old(self) -> None:
-        """Where the folder is make's target it stays older than all that it is made of until all is done: a call may be killed at any time."""
+        """Where the folder is make's target it stays older than all that it is made of until all is done: a
+        call may be killed at any time."""
         if not self.file:
             os.utime(self.folder, (0, 0))
 
     def enter(self) -> None:
-        """Makes the folder, older than anything from the first, and waits for another call that works there."""
+        """Makes the folder, older than anything from the first, and waits for another call that works
+        there."""
         if not os.path.isdir(self.folder):
             above = os.path.dirname(os.path.abspath(self.folder))
             os.makedirs(above, exist_ok=True)
@@ -135,7 +147,8 @@ class Driver:
         try:
             fcntl.flock(self.lock, fcntl.LOCK_EX | fcntl.LOCK_NB)
         except BlockingIOError:
-            say(f"blade-cc: note: another blade-cc is at work in {self.folder}; this one waits for it", sys.stderr)
+            say(f"blade-cc: note: another blade-cc is at work in {self.folder}; this one waits for it",
+                sys.stderr)
             fcntl.flock(self.lock, fcntl.LOCK_EX)
 
     def put(self, name: str, data: bytes) -> None:
@@ -162,13 +175,16 @@ class Driver:
 
     def label(self, linked: Module, module: Module) -> str:
         asked, to = self.asked, f"{self.aside}/{self.module}.wasm"
-        # Of the vault the secrets stand in its own module; where nothing at all is declared, that is said with the verdict.
-        self.runner.show([os.path.join(HERE, "blade-label"), module.path, to, *asked.labels, "--unlabelled", "--linked", linked.path])
+        # Of the vault the secrets stand in its own module; where nothing at all is declared, that is said
+        # with the verdict.
+        self.runner.show([os.path.join(HERE, "blade-label"), module.path, to, *asked.labels, "--unlabelled",
+                          "--linked", linked.path])
         try:
             made, told = with_source(module, asked.labels, False, True, linked)
         except Bad as bad:
             raise Stop(LABELS, f"blade-cc: error: {bad} [blade-label]") from None
-        errors = told.errors or lost(linked, told, asked.public_callers) or self.builder.strangers(linked, told.others, asked.public_callers)
+        errors = (told.errors or lost(linked, told, asked.public_callers)
+                  or self.builder.strangers(linked, told.others, asked.public_callers))
         if errors:
             raise Stop(LABELS, *errors)
         self.where, self.called = dict(told.entries), told.called
@@ -182,7 +198,8 @@ class Driver:
             return [labelled]
         plain, to = os.path.join(INCLUDE, "accessors.wasm"), f"{self.aside}/{way}.wasm"
         words = ["secret-memory", "0"] if way == "vault" else []
-        self.runner.show([os.path.join(HERE, "blade-label"), plain, to, "--pages-of", labelled, "--unlabelled", *words])
+        self.runner.show([os.path.join(HERE, "blade-label"), plain, to, "--pages-of", labelled,
+                          "--unlabelled", *words])
         made = with_pages(read_module(plain), pages_of(read_module(labelled)))
         written_to(to, with_source(module_of(made, to), words, False, True)[0])
         return [to, labelled]
@@ -194,18 +211,22 @@ class Driver:
     def harden(self, modules: List[str]) -> Tuple[str, str]:
         """The report, and what verify says."""
         image, certificate = f"{self.aside}/{self.module}.img", f"{self.aside}/{self.module}.json"
-        done = self.blade("harden", image, certificate, *modules, *self.counts(modules), to=f"{self.folder}/build/report.txt")
+        done = self.blade("harden", image, certificate, *modules, *self.counts(modules),
+                          to=f"{self.folder}/build/report.txt")
         if done.status:
             raise Stop(REFUSED, *self.refused(done, modules[-1]))
         verified = self.blade("verify", image, certificate, to=f"{self.folder}/build/verify.txt")
         if verified.status or verified.out.splitlines()[:2] != ["certificate yes", "stable yes"]:
-            raise Stop(DISAGREE, f"blade-cc: error: verify doesn't agree with harden: {verified.out.strip() or verified.status}")
+            raise Stop(DISAGREE, "blade-cc: error: verify doesn't agree with harden: "
+                       f"{verified.out.strip() or verified.status}")
         return done.out, verified.out
 
     def refuse_public_arguments(self, modules: List[str]) -> None:
         """What the module's own calls give for a secret parameter is secret in the caller already."""
-        image, functions = read_image(read_file(f"{self.aside}/{self.module}.img", "image")), lower([read_module(path) for path in modules])
-        allowed = {number for number, one in enumerate(functions) if is_meant(one.module, one.index, self.asked.public_callers)}
+        image = read_image(read_file(f"{self.aside}/{self.module}.img", "image"))
+        functions = lower([read_module(path) for path in modules])
+        allowed = {number for number, one in enumerate(functions)
+                   if is_meant(one.module, one.index, self.asked.public_callers)}
         given = public_arguments(image, allowed)
         if given:
             lines = Lines(functions)
@@ -219,8 +240,10 @@ class Driver:
         where, name = self.where.get(entry, ""), self.called.get(entry, str(given.parameter))
         parameter = f"parameter {name} of {callee.name}" + (f" ({where})" if where else "")
         caller = functions[given.caller].name if given.caller >= 0 else "a function"
-        return (f"{line.place + ':' + str(line.column) if line.number else 'blade-cc'}: error: {caller} passes a public value as the secret {parameter}: declare "
-                f"{caller}'s parameter, mark the value by BLADE_SECRET(x), or say --public-callers={base(callee.name)} if that is meant [blade-caller]")
+        return (f"{line.place + ':' + str(line.column) if line.number else 'blade-cc'}: error: "
+                f"{caller} passes a public value as the secret {parameter}: declare "
+                f"{caller}'s parameter, mark the value by BLADE_SECRET(x), "
+                f"or say --public-callers={base(callee.name)} if that is meant [blade-caller]")
 
     def counts(self, modules: List[str]) -> List[str]:
         """The words for harden, of runs from the start files."""
@@ -230,21 +253,27 @@ class Driver:
         done = self.blade("lower", image, *modules)
         if done.status:
             raise Stop(REFUSED, *self.refused(done, modules[-1]))
-        files = [self.counted(image, one, f"{self.folder}/build/{at}.counts", modules[-1]) for at, one in enumerate(self.asked.counts)]
+        files = [self.counted(image, one, f"{self.folder}/build/{at}.counts", modules[-1])
+                 for at, one in enumerate(self.asked.counts)]
         awk = '$1 == "site" { n[$2] += $3 } END { for (p in n) print "site", p, n[p] }'
-        self.runner.show_text(f"(head -1 {shlex.quote(files[0])}; awk {shlex.quote(awk)} {shlex.join(files)} | sort -k 2n) > {shlex.quote(total)}")
+        self.runner.show_text(f"(head -1 {shlex.quote(files[0])}; awk {shlex.quote(awk)} {shlex.join(files)} "
+                              f"| sort -k 2n) > {shlex.quote(total)}")
         written_to(total, summed([read_file(one).decode() for one in files]).encode())
         return ["--counts", total]
 
     def counted(self, image: str, given: str, to: str, module: str) -> str:
-        """The count file of a run from a start file, given as EXPORT=FILE or, where there is one export, as FILE."""
+        """The count file of a run from a start file, given as EXPORT=FILE or, where there is one export, as
+        FILE."""
         name, _, start = given.rpartition("=")
         exports = [told for sort, told in read_module(module).exports if sort == FUNCTION]
         if not name and len(exports) != 1:
-            raise Stop(USAGE, f"blade-cc: error: --counts {given}: EXPORT=FILE says which function runs: {', '.join(exports[:8])}")
-        done = self.blade("run", image, f"{self.module}/{name or exports[0]}", start, "--steps", STEPS, "--counts", to)
+            raise Stop(USAGE, f"blade-cc: error: --counts {given}: EXPORT=FILE says which function runs: "
+                       f"{', '.join(exports[:8])}")
+        done = self.blade("run", image, f"{self.module}/{name or exports[0]}", start, "--steps", STEPS,
+                          "--counts", to)
         if done.status:
-            raise Stop(REFUSED, f"blade-cc: error: the run from {start} ends with: {done.out.splitlines()[0] if done.out else done.status}")
+            raise Stop(REFUSED, f"blade-cc: error: the run from {start} ends with: "
+                       f"{done.out.splitlines()[0] if done.out else done.status}")
         return to
 
     def refused(self, done: Ran, path: str) -> List[str]:
@@ -257,7 +286,8 @@ class Driver:
         if function < 0:
             return [f"blade-cc: error: {why}", f"blade-cc: note: blade says: {said}"]
         where = diagnostics.spelled(line_of(module, place), f"{shown(path)}: offset {place:#x}")
-        return [f"{where}: error: {why}", f"{where}: note: in {module.function_name(function)}; blade says: {said}"]
+        return [f"{where}: error: {why}",
+                f"{where}: note: in {module.function_name(function)}; blade says: {said}"]
 
     def judge(self, modules: List[str], report: str, verified: str) -> int:
         """Tells the verdict and the places, and keeps what is made where it may be shipped."""
@@ -273,7 +303,8 @@ class Driver:
         told, lines, differ = self.explained(modules, f"{place}/{self.module}", report)
         if differ:
             self.move(place, self.aside)
-            raise Stop(DISAGREE, *(f"blade-cc: error: blade-explain doesn't agree with the program: {one}" for one in differ))
+            raise Stop(DISAGREE, *(f"blade-cc: error: blade-explain doesn't agree with the program: {one}"
+                                   for one in differ))
         evidence = None
         if self.asked.start and not is_yes:
             evidence, self.explained_by = after_no(self, told, lines, modules, f"{place}/{self.module}")
@@ -283,7 +314,8 @@ class Driver:
         if is_kept and self.file:
             written_to(self.file, read_file(modules[-1], "module"))
         protects = next(line for line in report.splitlines() if line.startswith("protects "))
-        say(f"{self.module}: {text.verdict_text(told.found, (), evidence)}; {protects}; {text.declared_text(told.found).partition('. So')[0]}")
+        say(f"{self.module}: {text.verdict_text(told.found, (), evidence)}; {protects}; "
+            f"{text.declared_text(told.found).partition('. So')[0]}")
         for line in summary(evidence, lines) if evidence else ():
             say(f"{self.module}: {line}")
         return YES if is_kept else NO
@@ -294,18 +326,21 @@ class Driver:
             os.replace(f"{of}/{name}", f"{to}/{name}")
         self.keep_old()
 
-    def explained(self, modules: List[str], made: str, report: str) -> Tuple[diagnostics.Told, Lines, List[str]]:
+    def explained(self, modules: List[str], made: str,
+                  report: str) -> Tuple[diagnostics.Told, Lines, List[str]]:
         """What is to be told of an image; and where that isn't what the program says."""
-        image, functions = read_image(read_file(f"{made}.img")), lower([read_module(path) for path in modules])
+        image = read_image(read_file(f"{made}.img"))
+        functions = lower([read_module(path) for path in modules])
         differ = compare.positions_differ(image, functions)
-        lines = Lines([] if differ else functions, Sources([".", *{os.path.dirname(os.path.abspath(one)) for one in self.asked.sources}]))
+        lines = Lines([] if differ else functions,
+                      Sources([".", *{os.path.dirname(os.path.abspath(one)) for one in self.asked.sources}]))
         seen, protects = find(image), protects_of(image, read_certificate(read_file(f"{made}.json")))
         differ += compare.report_differs(seen, protects, report)
         return diagnostics.told_of(seen, lines, causes_of(seen, lines), protects), lines, differ
 
     def make_native(self, made: str, modules: List[str]) -> None:
-        """Native code of the image. Its reader of images is in formats/, next to companions/, which nothing else
-        here needs: so it is imported only now."""
+        """Native code of the image. Its reader of images is in formats/, next to companions/, which nothing
+        else here needs: so it is imported only now."""
         from .native.making import native_of
         if native_of(self.program, made, modules, f"{self.folder}/native", found("clang")):
             raise Stop(BUILD, f"blade-cc: error: {self.module}: blade-native doesn't make an object of it")
@@ -313,27 +348,34 @@ class Driver:
     def tell(self, told: diagnostics.Told, lines: Lines, modules: List[str], made: str) -> None:
         """The places: as text, as JSON and as SARIF."""
         problems, log = f"{self.folder}/problems.json", f"{self.folder}/{self.module}.sarif"
-        self.runner.show([os.path.join(HERE, "blade-explain"), f"{made}.img", *modules, "--certificate", f"{made}.json", "--report",
-                          f"{self.folder}/build/report.txt", "--lines", "--json", problems, "--sarif", log, *self.explained_by])
+        self.runner.show([os.path.join(HERE, "blade-explain"), f"{made}.img", *modules, "--certificate",
+                          f"{made}.json", "--report",
+                          f"{self.folder}/build/report.txt", "--lines", "--json", problems, "--sarif", log,
+                          *self.explained_by])
         self.put(os.path.basename(problems), sarif.as_json(told, f"{made}.img", modules).encode())
-        self.put(os.path.basename(log), sarif.as_sarif(told, f"{made}.img", modules, lines, os.getcwd(), sarif.version()).encode())
+        self.put(os.path.basename(log),
+                 sarif.as_sarif(told, f"{made}.img", modules, lines, os.getcwd(), sarif.version()).encode())
         for line in diagnostics.as_text(told, shown(f"{made}.img"), self.asked.limit, lines):
             say(line, sys.stderr)
 
 
 def is_meant(module: Module, index: int, names: Sequence[str]) -> bool:
     """Whether words name a function."""
-    called = {module.function_name(index), base(module.function_name(index)), *(name for (sort, name), at in module.exports.items() if (sort, at) == (FUNCTION, index))}
+    called = {module.function_name(index), base(module.function_name(index)),
+              *(name for (sort, name), at in module.exports.items() if (sort, at) == (FUNCTION, index))}
     return bool(called & set(names))
 
 
 def lost(linked: Module, told: Labelled, names: Sequence[str]) -> List[str]:
     """Calls of labelled functions that the source has and the module doesn't."""
     entries = [entry for entry, _ in told.entries]
-    allowed = [numbers[0] for _, numbers in entries if len(numbers) == 2 and is_meant(linked, numbers[0], names)]
+    allowed = [numbers[0] for _, numbers in entries if len(numbers) == 2
+               and is_meant(linked, numbers[0], names)]
     where = {numbers[0]: place for (_, numbers), place in told.entries if len(numbers) == 2}
-    return [f"{where[target] or 'blade-cc'}: error: {linked.function_name(caller)} calls {linked.function_name(target)} by its source, and nothing of that is left in the "
-            f"module: declare {linked.function_name(caller)}'s parameter, or say --public-callers={base(linked.function_name(target))} if that is meant [blade-caller]"
+    return [f"{where[target] or 'blade-cc'}: error: {linked.function_name(caller)} calls "
+            f"{linked.function_name(target)} by its source, and nothing of that is left in the "
+            f"module: declare {linked.function_name(caller)}'s parameter, "
+            f"or say --public-callers={base(linked.function_name(target))} if that is meant [blade-caller]"
             for caller, target in gone(linked, entries, allowed)]
 
 
@@ -347,7 +389,8 @@ def summed(texts: Sequence[str]) -> str:
     for line in (line for one in texts for line in one.splitlines() if line.startswith("site ")):
         _, position, count = line.split()
         total[int(position)] += int(count)
-    return "\n".join([texts[0].splitlines()[0]] + [f"site {position} {total[position]}" for position in sorted(total)]) + "\n"
+    return "\n".join([texts[0].splitlines()[0]]
+                     + [f"site {position} {total[position]}" for position in sorted(total)]) + "\n"
 
 
 def line_of(module: Module, place: int):
@@ -367,7 +410,8 @@ def mark(driver: Optional[Driver], is_made: bool) -> None:
 def write_errors(driver: Optional[Driver], stop: Stop) -> None:
     """A log of errors for editors, where the work ended before the places were told."""
     if driver and stop.lines and os.path.isdir(driver.folder):
-        written_to(f"{driver.folder}/{driver.module}.sarif", sarif.errors_as_sarif(stop.lines, os.getcwd(), sarif.version()).encode())
+        written_to(f"{driver.folder}/{driver.module}.sarif",
+                   sarif.errors_as_sarif(stop.lines, os.getcwd(), sarif.version()).encode())
 
 
 def status_of(words: Sequence[str], usage: str) -> int:

@@ -52,7 +52,8 @@ def answers(text: str) -> List[Tuple[str, bool]]:
 
 
 def refused_answers(program: Optional[str], image: str, certificate: str) -> List[str]:
-    """The questions of verify that are answered by no; all of them if it refuses the files. Nothing is printed."""
+    """The questions of verify that are answered by no; all of them if it refuses the files. Nothing is
+    printed."""
     words = [program_of(program), "verify", image, certificate]
     done = subprocess.run(words, stdin=subprocess.DEVNULL, stdout=subprocess.PIPE, text=True, check=False)
     if done.returncode not in (YES, NO):

@@ -1,23 +1,29 @@
-"""Declares what is secret in a module, and what has to stay public: the custom section blade.labels. Licence: public domain (CC0).
+"""Declares what is secret in a module, and what has to stay public: the custom section blade.labels.
+Licence: public domain (CC0).
 
-    blade-label IN.wasm OUT.wasm [--replace] [--only] [--unlabelled] [--pages-of M.wasm] [--linked LINKED.wasm] [--public-callers F,..] KIND NAME .. KIND NAME ..
+    blade-label IN.wasm OUT.wasm [--replace] [--only] [--unlabelled] [--pages-of M.wasm] [--linked
+        LINKED.wasm] [--public-callers F,..] KIND NAME .. KIND NAME ..
     blade-label IN.wasm OUT.wasm --remove
     blade-label IN.wasm --list
     blade-label IN.wasm --check
 
-KIND NAME .. is secret-param F I, secret-global G, secret-memory M, public-result F I or public-global G. F is a function and G a global, by
-the name that it is exported under or has in the name section, or by its index with imported ones first; I is the index of a parameter
-or result, or the parameter's name in C, M that of a memory. What the C code declares by the macros of blade.h counts, too, unless --only says that it doesn't. No label
-at all is an error, unless --unlabelled says that this is meant. --pages-of gives the memory as many pages as that of M.wasm has: for
-the modules of accessors.
+KIND NAME .. is secret-param F I, secret-global G, secret-memory M, public-result F I or public-global G. F is
+a function and G a global, by the name that it is exported under or has in the name section, or by its index
+with imported ones first; I is the index of a parameter or result, or the parameter's name in C, M that of a
+memory. What the C code declares by the macros of blade.h counts, too, unless --only says that it doesn't. No
+label at all is an error, unless --unlabelled says that this is meant. --pages-of gives the memory as many
+pages as that of M.wasm has: for the modules of accessors.
 
-A section blade.sum keeps a sum over the code that the labels were made for. After another tool (wasm-opt) has changed the code they speak of other functions and
-parameters: --check says so by status 3, and --replace labels anew.
+A section blade.sum keeps a sum over the code that the labels were made for. After another tool (wasm-opt) has
+changed the code they speak of other functions and parameters: --check says so by status 3, and --replace
+labels anew.
 
-A parameter's label is one of the function's code. Where clang inlines the function there is no such code, and what it is given there is public: keep
-it by __attribute__((noinline)), as the macros do, or declare the parameter of the function that is called from outside.
+A parameter's label is one of the function's code. Where clang inlines the function there is no such code, and
+what it is given there is public: keep it by __attribute__((noinline)), as the macros do, or declare the
+parameter of the function that is called from outside.
 
-It ends with 0; 1 where the labels aren't right, and nothing is written; 2 for words that it doesn't know; 3 for files that it can't read or write."""
+It ends with 0; 1 where the labels aren't right, and nothing is written; 2 for words that it doesn't know; 3
+for files that it can't read or write."""
 import argparse
 import sys
 from typing import Sequence
@@ -33,12 +39,14 @@ from .printing import say
 from .writing import write_file
 
 DONE, WRONG, USAGE = 0, 1, 2
-NOTE = ("blade-label: note: a parameter's label holds for calls from outside: a compiler may have inlined the function, or computed its result, elsewhere in the "
+NOTE = ("blade-label: note: a parameter's label holds for calls from outside: "
+        "a compiler may have inlined the function, or computed its result, elsewhere in the "
         "module; blade-cc keeps it from that")
 
 
 def words_of(words):
-    parser = argparse.ArgumentParser(prog="blade-label", usage="see the head of this file, and docs/GUIDE.md, section 2", add_help=False)
+    parser = argparse.ArgumentParser(prog="blade-label", usage="see the head of this file, "
+                                     "and docs/GUIDE.md, section 2", add_help=False)
     parser.add_argument("files", nargs="*")
     for flag in ("--replace", "--only", "--unlabelled", "--remove", "--list", "--check"):
         parser.add_argument(flag, action="store_true")
@@ -68,13 +76,17 @@ def made_of(asked, module):
 
 
 def called_inside(module, meant):
-    """Functions with a secret parameter that the module calls itself: what it gives them can't be told without an image of it."""
+    """Functions with a secret parameter that the module calls itself: what it gives them can't be told
+    without an image of it."""
     calls = called_in(module)
     functions = dict.fromkeys(numbers[0] for kind, numbers in entries_of(module) if kind == "secret-param")
     called = {function for one in calls.values() for function in one}
-    return [f"blade-label: {module.function_name(one)} is called inside of the module, and whether what it is given there is secret can't be told here: declare its "
-            f"callers' parameters, have blade-cc look, or say --public-callers={module.function_name(one)} if that is meant"
-            for one in functions if one in called and module.function_name(one) not in meant and str(one) not in meant]
+    return [f"blade-label: {module.function_name(one)} is called inside of the module, "
+            "and whether what it is given there is secret can't be told here: declare its "
+            f"callers' parameters, have blade-cc look, or say --public-callers={module.function_name(one)} "
+            "if that is meant"
+            for one in functions if one in called and module.function_name(one) not in meant
+            and str(one) not in meant]
 
 
 def run(words):

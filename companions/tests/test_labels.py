@@ -28,11 +28,13 @@ CASES = [
     ("public-global 0 secret-memory 0", f"00 13 {HEAD} 02 02 04 00 02 00"),
     ("", f"00 0F {HEAD} 01 00"),
 ]
-# The section that says for which code labels were made: the sections 1, 2, 3, 6 and 10 in order, each with its number and size in front.
+# The section that says for which code labels were made: the sections 1, 2, 3, 6 and 10 in order, each with
+# its number and size in front.
 SUMMED = b"".join(bytes.fromhex(PARTS[at]) for at in (0, 1, 2, 4, 6))
 SUM = bytes.fromhex("00 2B 09 62 6C 61 64 65 2E 73 75 6D 01") + hashlib.sha256(SUMMED).digest()
 # Bytes of the imported name, of a global's first value and of the code.
-CHANGED = [MODULE.index(bytes.fromhex("61 01 62")), MODULE.index(bytes.fromhex("41 00 0B")) + 1, MODULE.index(bytes.fromhex("20 00 0B")) + 1]
+CHANGED = [MODULE.index(bytes.fromhex("61 01 62")), MODULE.index(bytes.fromhex("41 00 0B")) + 1,
+           MODULE.index(bytes.fromhex("20 00 0B")) + 1]
 # Words that are refused.
 REFUSED = [
     "secret-param add", "secret-memory -1", "secret-memory 1", "secret-local 0", "0", "secret-memory 0 0",

@@ -47,12 +47,17 @@ LEAKS = [
          HEAD + "int result(int x);\nBLADE_SECRET_PARAM(result, x);\nBLADE_PUBLIC_RESULT(result);\nint "
          "result(int x) { return x * 3; }\n"),
     Case("stored", [], 1, ["stored.c:4:", "[blade-public-memory]"],
-         HEAD + "void stored(int *p, int x);\nBLADE_SECRET_PARAM(stored, x);\nvoid stored(int *p, int x) { *p = x; }\n"),
-    # A label by words keeps the function from being inlined into its unit, where what it is given would be public.
-    Case("hole", ["--label", "secret-param scrambled 0", "--public-callers=scrambled"], 1, ["hole.c:3:", "[blade-load]"],
-         TABLE + "unsigned scrambled(unsigned key) { return key * 5 + 1; }\nunsigned chosen(unsigned x) { return table[scrambled(x) & 15]; }\n"),
+         HEAD + "void stored(int *p, int x);\nBLADE_SECRET_PARAM(stored, x);\nvoid stored(int *p, int x) "
+         "{ *p = x; }\n"),
+    # A label by words keeps the function from being inlined into its unit, where what it is given would be
+    # public.
+    Case("hole", ["--label", "secret-param scrambled 0", "--public-callers=scrambled"], 1,
+         ["hole.c:3:", "[blade-load]"],
+         TABLE + "unsigned scrambled(unsigned key) { return key * 5 + 1; }\nunsigned chosen(unsigned x) "
+         "{ return table[scrambled(x) & 15]; }\n"),
     Case("kept", ["--public-callers", "kept"], 1, ["kept.c:5:", "[blade-load]"],
-         HEAD + TABLE + "unsigned kept(unsigned key);\nBLADE_SECRET_PARAM(kept, key); unsigned kept(unsigned key) { return key * 5 + 1; }\n"
+         HEAD + TABLE + "unsigned kept(unsigned key);\nBLADE_SECRET_PARAM(kept, key); "
+         "unsigned kept(unsigned key) { return key * 5 + 1; }\n"
          "unsigned chosen(unsigned x) { return table[kept(x) & 15]; }\n"),
 ]
 YES = [
@@ -73,9 +78,11 @@ YES = [
     Case("returned", MEMORY, 0, ["1 parameter, 1 memory"],
          BIG + "big f(int n);\nBLADE_SECRET_PARAM(f, n);\nbig f(int n) { big b = {{n}}; return b; }\n"),
     Case("second", ["-O0", *MEMORY], 0, ["1 parameter, 1 memory"],
-         BIG + "big f(int m, int n);\nBLADE_SECRET_PARAM(f, n);\nbig f(int m, int n) { big b = {{m, n}}; return b; }\n"),
+         BIG + "big f(int m, int n);\nBLADE_SECRET_PARAM(f, n);\nbig f(int m, int n) { big b = {{m, n}}; "
+         "return b; }\n"),
     Case("within", ["--public-callers=g"], 0, ["1 parameter"],
-         HEAD + "static int g(int x);\nBLADE_SECRET_PARAM(g, x);\nstatic int g(int x) { return x + 1; }\nint h(int y) { return g(y) * 2; }\n"),
+         HEAD + "static int g(int x);\nBLADE_SECRET_PARAM(g, x);\nstatic int g(int x) { return x + 1; }\n"
+         "int h(int y) { return g(y) * 2; }\n"),
     Case("unoptimised", ["-O0", *MEMORY], 0, ["1 parameter, 1 memory"],
          HEAD + "int f(int x);\nBLADE_SECRET_PARAM(f, x);\nint f(int x) { return x * 2; }\n"),
     Case("renamed", [], 0, ["1 parameter"], "#define f library_f\n" + HEAD
@@ -108,12 +115,18 @@ LABELS = [
          HEAD + "struct key { int w[4]; };\nint f(struct key k);\nBLADE_SECRET_PARAM(f, k);\nint f(struct "
          "key k) { return k.w[1]; }\n"),
     Case("dropped", ["-Wno-unused"], 5, ["dropped.c:3: error: there is no function g"],
-         HEAD + "static int g(int x);\nBLADE_SECRET_PARAM(g, x);\nstatic int g(int x) { return x + 1; }\nint h(int y) { return y; }\n"),
-    Case("unlined", ["-g0"], 5, ["unlined.c:3: error: parameter 0 of f can't be told: compile with -g"], HEAD + "int f(int x);\nBLADE_SECRET_PARAM(f, 0);\nint f(int x) { return x * 2; }\n"),
-    Case("given", [], 5, ["given.c:5:23: error: h passes a public value as the secret parameter x of g (given.c:3)", "[blade-caller]"],
-         HEAD + "static int g(int x);\nBLADE_SECRET_PARAM(g, x);\nstatic int g(int x) { return x + 1; }\nint h(int y) { return g(y) * 2; }\n"),
-    Case("nothing", ["--label", "secret-param nothing kye"], 5, ["nothing has no parameter kye: do you mean key?"], "int nothing(int key) { return key; }\n"),
-    Case("nobody", ["--label", "secret-param nobdy 0"], 5, ["no function is called nobdy"], "int nobody(int x) { return x; }\n"),
+         HEAD + "static int g(int x);\nBLADE_SECRET_PARAM(g, x);\nstatic int g(int x) { return x + 1; }\n"
+         "int h(int y) { return y; }\n"),
+    Case("unlined", ["-g0"], 5, ["unlined.c:3: error: parameter 0 of f can't be told: compile with -g"],
+         HEAD + "int f(int x);\nBLADE_SECRET_PARAM(f, 0);\nint f(int x) { return x * 2; }\n"),
+    Case("given", [], 5, ["given.c:5:23: error: h passes a public value as the secret parameter x of g "
+                          "(given.c:3)", "[blade-caller]"],
+         HEAD + "static int g(int x);\nBLADE_SECRET_PARAM(g, x);\nstatic int g(int x) { return x + 1; }\n"
+         "int h(int y) { return g(y) * 2; }\n"),
+    Case("nothing", ["--label", "secret-param nothing kye"], 5,
+         ["nothing has no parameter kye: do you mean key?"], "int nothing(int key) { return key; }\n"),
+    Case("nobody", ["--label", "secret-param nobdy 0"], 5, ["no function is called nobdy"],
+         "int nobody(int x) { return x; }\n"),
 ]
 REFUSALS = [
     Case("float", [], 6, ["float.c:4:", "an instruction of floats", "[blade-float]", "in scaled"],

@@ -1,5 +1,6 @@
-"""What tools/checks/labels compiles: C and C++ programs in which a value that is declared secret becomes an address, a branch or a divisor, by ways on which its
-label might get lost; for each the answer of blade-cc that is right. Licence: public domain (CC0)."""
+"""What tools/checks/labels compiles: C and C++ programs in which a value that is declared secret becomes an
+address, a branch or a divisor, by ways on which its label might get lost; for each the answer of blade-cc
+that is right. Licence: public domain (CC0)."""
 from typing import Dict, NamedTuple, Optional, Tuple
 
 
@@ -11,7 +12,8 @@ class Answer(NamedTuple):
 
 
 class Case(NamedTuple):
-    """A program: the answers that are right, its files, the command, the function that runs, and two start files that differ in the secret alone."""
+    """A program: the answers that are right, its files, the command, the function that runs, and two start
+    files that differ in the secret alone."""
 
     name: str
     right: Tuple[Answer, ...]
@@ -22,7 +24,8 @@ class Case(NamedTuple):
 
 
 NO = (Answer(1, "constant-time no"),)
-YES = (Answer(0, "constant-time yes"),)  # what is declared secret is nowhere an address, a branch or a divisor
+# what is declared secret is nowhere an address, a branch or a divisor
+YES = (Answer(0, "constant-time yes"),)
 CALLER = (Answer(5, "passes a public value as the secret parameter"),)
 COPY = (Answer(5, "doesn't have this"),)  # a unit that defines the function was compiled without its label
 PARTS = (Answer(5, "isn't one parameter of the module"),)
@@ -831,7 +834,8 @@ CASES = [
             "unsigned f(unsigned p, unsigned k) { return k ^ p; }\n"
             "unsigned g(unsigned i, unsigned j) { return table[f(j, i) & 255]; }\n")},
         command=(
-            "blade-cc --no-fail --public-callers=f a.c -o out/ > /dev/null 2>&1; wasm-opt -O2 out/a.wasm -o x.wasm && "
+            "blade-cc --no-fail --public-callers=f a.c -o out/ > /dev/null 2>&1; "
+            "wasm-opt -O2 out/a.wasm -o x.wasm && "
             "rm -r out && "
             "mkdir out && cp x.wasm out/a.wasm && $BLADE harden out/a.img out/a.json out/a.wasm && "
             "blade-explain out/a.img out/a.wasm"),
@@ -845,7 +849,8 @@ CASES = [
             "unsigned f(unsigned k) { return table[k & 255]; }\n"
             "unsigned last(unsigned a) { return a * 3; }\n")},
         command=(
-            "blade-cc --no-fail a.c -o out/ > /dev/null 2>&1; wasm-opt -O3 out/a.wasm -o x.wasm && rm -r out && "
+            "blade-cc --no-fail a.c -o out/ > /dev/null 2>&1; wasm-opt -O3 out/a.wasm -o x.wasm && rm -r "
+            "out && "
             "mkdir out && cp x.wasm out/a.wasm && $BLADE harden out/a.img out/a.json out/a.wasm && "
             "blade-explain out/a.img out/a.wasm"),
         export="f"),
@@ -1039,22 +1044,25 @@ CASES = [
     Case("marked", NO, {
         "a.c": HEAD + TABLE + "unsigned g(unsigned i) { return table[BLADE_SECRET(i) & 255]; }\n"}),
     Case("marked-branch-O1", NO, {
-        "a.c": HEAD + "volatile unsigned v;\nunsigned g(unsigned i) { if (BLADE_SECRET(i) > 5) v = 1; else v = v + 2; return 0; }\n"},
-        command="blade-cc -O1 a.c -o out/"),
+        "a.c": HEAD + "volatile unsigned v;\nunsigned g(unsigned i) { if (BLADE_SECRET(i) > 5) v = 1; "
+        "else v = v + 2; return 0; }\n"}, command="blade-cc -O1 a.c -o out/"),
     Case("marked-char-O0", NO, {
-        "a.c": HEAD + TABLE + "BLADE_SECRET_MEMORY;\nunsigned g(unsigned i) { unsigned char k = BLADE_SECRET((unsigned char)i); return table[k]; }\n"},
+        "a.c": HEAD + TABLE + "BLADE_SECRET_MEMORY;\nunsigned g(unsigned i) "
+        "{ unsigned char k = BLADE_SECRET((unsigned char)i); return table[k]; }\n"},
         command="blade-cc -O0 a.c -o out/"),
     Case("marked-wide-cxx", NO, {
-        "a.cc": HEAD + TABLE + "extern \"C\" unsigned g(unsigned long long i) { return 1000 / ((unsigned)BLADE_SECRET(i) | 1); }\n"},
-        command="blade-cc a.cc -o out/"),
+        "a.cc": HEAD + TABLE + "extern \"C\" unsigned g(unsigned long long i) "
+        "{ return 1000 / ((unsigned)BLADE_SECRET(i) | 1); }\n"}, command="blade-cc a.cc -o out/"),
     Case("marked-in-one-of-two-units", NO, {
         "a.h": HEAD + "unsigned f(unsigned k);\n",
         "a.c": '#include "a.h"\n' + TABLE + "unsigned f(unsigned k) { return table[k & 255]; }\n",
         "b.c": '#include "a.h"\nunsigned g(unsigned i) { return f(BLADE_SECRET(i)); }\n'},
         command="blade-cc -c a.c -o a.o && blade-cc -c b.c -o b.o && blade-cc a.o b.o -o out/"),
     Case("marked-for-a-parameter", NO, {
-        "a.c": HEAD + TABLE + LABELLED + "unsigned f(unsigned k) { return k; }\nunsigned g(unsigned i) { return table[f(BLADE_SECRET(i)) & 255]; }\n"}),
-    Case("marked-stripped", (Answer(5, "uses BLADE_SECRET, and the module doesn't have its masks by name"),), {
+        "a.c": HEAD + TABLE + LABELLED + "unsigned f(unsigned k) { return k; }\nunsigned g(unsigned i) "
+        "{ return table[f(BLADE_SECRET(i)) & 255]; }\n"}),
+    Case("marked-stripped", (Answer(5, "uses BLADE_SECRET, and the module doesn't have its masks by name"),),
+         {
         "a.c": HEAD + TABLE + "unsigned g(unsigned i) { return table[BLADE_SECRET(i) & 255]; }\n"},
         command="blade-cc -Wl,-s a.c -o out/"),
     Case("marked-lto", LINKER + NO, {

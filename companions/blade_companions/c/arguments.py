@@ -13,12 +13,13 @@ YES, NO, USAGE, BUILD, MISSING, LABELS, REFUSED, DISAGREE = range(8)
 SOURCES = (".c", ".cc", ".cpp", ".cxx", ".C", ".s", ".S", ".i")
 OBJECTS = (".o", ".a", ".obj", ".bc")
 # clang's words that have another one behind them.
-WITH_NEXT = frozenset("-I -D -U -include -isystem -idirafter -iquote -x -Xclang -mllvm -MF -MT -MQ -imacros -isysroot --sysroot -std".split())
+WITH_NEXT = frozenset("-I -D -U -include -isystem -idirafter -iquote -x -Xclang -mllvm -MF -MT -MQ -imacros "
+                      "-isysroot --sysroot -std".split())
 ALONE = frozenset("-c -S -E -M -MM -fsyntax-only -###".split())  # clang does all there is to do
 OTHER_MACHINE = {
-    "-mbulk-memory": "operations on whole memories", "-msimd128": "vectors", "-mrelaxed-simd": "vectors", "-mreference-types": "references",
-    "-matomics": "threads", "-pthread": "threads", "-mtail-call": "tail calls", "-mexception-handling": "exceptions",
-    "-mnontrapping-fptoint": "floats", "-mmultimemory": "several memories", "-m64": "64-bit addresses"}
+    "-mbulk-memory": "operations on whole memories", "-msimd128": "vectors", "-mrelaxed-simd": "vectors",
+    "-mreference-types": "references", "-matomics": "threads", "-pthread": "threads",
+    "-mtail-call": "tail calls", "-mexception-handling": "exceptions", "-mnontrapping-fptoint": "floats", "-mmultimemory": "several memories", "-m64": "64-bit addresses"}
 
 
 class Stop(Exception):
@@ -38,7 +39,8 @@ class Asked:
     sources: List[str] = field(default_factory=list)
     objects: List[str] = field(default_factory=list)
     labels: List[str] = field(default_factory=list)
-    counts: List[str] = field(default_factory=list)  # start files, by EXPORT=FILE where there are several exports
+    # start files, by EXPORT=FILE where there are several exports
+    counts: List[str] = field(default_factory=list)
     start: Optional[str] = None  # a start file for a search after a no, in the same way
     out: Optional[str] = None
     name: Optional[str] = None
@@ -46,7 +48,8 @@ class Asked:
     way: Optional[str] = None  # ledger or vault
     pages: Optional[int] = None
     limit: int = 20
-    public_callers: List[str] = field(default_factory=list)  # labelled functions that may be given public values
+    # labelled functions that may be given public values
+    public_callers: List[str] = field(default_factory=list)
     alone: bool = False
     verbose: bool = False
     unlabelled: bool = False
@@ -78,7 +81,8 @@ def setters(asked: Asked) -> Dict[str, Callable[[str], None]]:
     return {
         "-o": keep("out"), "--name": keep("name"), "--blade": keep("blade"),
         "--label": lambda value: asked.labels.extend(value.split()), "--counts": asked.counts.append,
-        "--start": keep("start"), "--public-callers": lambda value: asked.public_callers.extend(value.split(",")),
+        "--start": keep("start"),
+        "--public-callers": lambda value: asked.public_callers.extend(value.split(",")),
         "--export": lambda value: asked.links.append(f"--export={value}"),
         "--memory": lambda value: setattr(asked, "pages", number("--memory", value, 256)),
         "--limit": lambda value: setattr(asked, "limit", number("--limit", value, 1_000_000)),
@@ -87,8 +91,8 @@ def setters(asked: Asked) -> Dict[str, Callable[[str], None]]:
 
 
 SWITCHES: Dict[str, Tuple[str, object]] = {
-    "--ledger": ("way", "ledger"), "--vault": ("way", "vault"), "--unlabelled": ("unlabelled", True), "--no-fail": ("no_fail", True),
-    "--native": ("native", True), "-v": ("verbose", True)}
+    "--ledger": ("way", "ledger"), "--vault": ("way", "vault"), "--unlabelled": ("unlabelled", True),
+    "--no-fail": ("no_fail", True), "--native": ("native", True), "-v": ("verbose", True)}
 
 
 def asked_by(words: Sequence[str]) -> Asked:
@@ -132,11 +136,14 @@ def plain(asked: Asked, word: str) -> None:
     elif word.endswith(SOURCES):
         asked.sources.append(word)
     else:
-        raise Stop(USAGE, f"blade-cc: error: {word}: neither a source ({' '.join(SOURCES)}) nor an object ({' '.join(OBJECTS)})")
+        raise Stop(USAGE, f"blade-cc: error: {word}: neither a source ({' '.join(SOURCES)}) "
+                   f"nor an object ({' '.join(OBJECTS)})")
 
 
 def refuse_machine(word: str) -> None:
     if word in OTHER_MACHINE:
-        raise Stop(USAGE, f"blade-cc: error: {word}: blade takes WebAssembly 1.0, without {OTHER_MACHINE[word]}; leave it out")
+        raise Stop(USAGE, f"blade-cc: error: {word}: blade takes WebAssembly 1.0, "
+                   f"without {OTHER_MACHINE[word]}; leave it out")
     if re.match(r"-m(cpu|arch|tune)=(?!mvp$)|--target=(?!wasm32)", word):
-        raise Stop(USAGE, f"blade-cc: error: {word}: blade-cc compiles for wasm32 with -mcpu=mvp; leave it out")
+        raise Stop(USAGE, f"blade-cc: error: {word}: blade-cc compiles for wasm32 with -mcpu=mvp; "
+                   "leave it out")

@@ -1,4 +1,5 @@
-"""From C to a linked module whose variables have locals of their own: the first half of blade-cc. Licence: public domain (CC0)."""
+"""From C to a linked module whose variables have locals of their own: the first half of blade-cc.
+Licence: public domain (CC0)."""
 from __future__ import annotations
 
 import os
@@ -44,7 +45,8 @@ class Builder:
         if last and not any(is_clangs_own(flag) for flag in asked.flags):
             asked.flags = [flag for flag in asked.flags if flag not in ("-c", "-S")]
             return self.objects_alone(last[-1])
-        words = self.compiler.words((asked.sources or ["x.c"])[0]) + asked.sources + (["-o", asked.out] if asked.out else [])
+        words = (self.compiler.words((asked.sources or ["x.c"])[0]) + asked.sources
+                 + (["-o", asked.out] if asked.out else []))
         self.runner.show(words)
         return BUILD if subprocess.run(words, check=False).returncode else 0
 
@@ -55,7 +57,8 @@ class Builder:
         with tempfile.TemporaryDirectory(prefix="blade-") as folder:
             for source in sources:
                 ending = ".o" if last == "-c" else ".s"
-                self.compiler.compile(source, out or os.path.splitext(os.path.basename(source))[0] + ending, folder, last)
+                self.compiler.compile(source, out or os.path.splitext(os.path.basename(source))[0] + ending,
+                                      folder, last)
         return 0
 
     def objects(self) -> List[str]:
@@ -67,20 +70,25 @@ class Builder:
         return made + self.asked.objects
 
     def library(self, missing: Set[str]) -> List[str]:
-        """What stands in no file that was given: the masks of BLADE_SECRET; the four functions of libc.c, which give way to the sources' own; wasi-libc and
-        clang's own functions, where they are installed. memcmp of wasi-libc stops at the first difference, so that of libc.c goes first."""
+        """What stands in no file that was given: the masks of BLADE_SECRET; the four functions of libc.c,
+        which give way to the sources' own; wasi-libc and clang's own functions, where they are installed.
+        memcmp of wasi-libc stops at the first difference, so that of libc.c goes first."""
         source, to = f"{self.folder}/blade-libc.c", f"{self.folder}/blade-libc.o"
-        written_to(source, ("".join(f"#pragma weak {name}\n" for name in LIBRARY) + f'#include "{INCLUDE}/libc.c"\n#include "{INCLUDE}/masks.c"\n').encode())
-        done = self.runner.run([found("clang"), *TARGET, "-O2", "-fno-builtin", "-fvisibility=hidden", "-c", "-o", to, source])
+        written_to(source, ("".join(f"#pragma weak {name}\n" for name in LIBRARY)
+                            + f'#include "{INCLUDE}/libc.c"\n#include "{INCLUDE}/masks.c"\n').encode())
+        done = self.runner.run([found("clang"), *TARGET, "-O2", "-fno-builtin", "-fvisibility=hidden", "-c",
+                                "-o", to, source])
         if done.status:
             raise Stop(BUILD, done.errors)
         if all(name.startswith(MASKS) for name in missing):
             return [to]
-        own = subprocess.run([found("clang"), "--target=wasm32-wasi", "-print-libgcc-file-name"], capture_output=True, text=True, check=False).stdout.strip()
+        own = subprocess.run([found("clang"), "--target=wasm32-wasi", "-print-libgcc-file-name"],
+                             capture_output=True, text=True, check=False).stdout.strip()
         return [to] + [one for one in (WASI_LIBRARY, own) if os.path.exists(one)]
 
     def exports(self, objects: Sequence[str]) -> List[str]:
-        """Words that export what other units may call, of the objects themselves: nothing else says what is exported."""
+        """Words that export what other units may call, of the objects themselves: nothing else says what is
+        exported."""
         names: List[str] = []
         for one in objects:
             given = given_by(one) if os.path.exists(one) and not one.endswith(".a") else []
@@ -92,19 +100,23 @@ class Builder:
     def memory(self, pages: int) -> List[str]:
         """Words for as many pages at last as at first, as far as the words that were given don't say it."""
         asked = self.asked
-        size = next((word.partition("=")[2] for word in asked.links if word.startswith("--initial-memory=")), str(pages * PAGE))
-        return [word for word in (f"--initial-memory={size}", f"--max-memory={size}") if not asked.is_linked_with(word.partition("=")[0])]
+        size = next((word.partition("=")[2] for word in asked.links if word.startswith("--initial-memory=")),
+                    str(pages * PAGE))
+        return [word for word in (f"--initial-memory={size}", f"--max-memory={size}")
+                if not asked.is_linked_with(word.partition("=")[0])]
 
     def link(self, objects: List[str]) -> Module:
-        """The linked module: again with what the first attempts lack, which are a library, exports, and memory for all data."""
+        """The linked module: again with what the first attempts lack, which are a library, exports, and
+        memory for all data."""
         linked = f"{self.folder}/linked.wasm"
         links = [] if self.asked.is_linked_with("stack-size") else STACK
         exports: List[str] = []
         extra: List[str] = []
         least = pages = self.asked.pages or FIRST_PAGES
         while True:
-            done = self.runner.run([found("wasm-ld"), "--no-entry", *links, *self.memory(pages), *self.asked.links, *exports, f"--reproduce={self.folder}/inputs.tar", "-o", linked,
-                                    *objects, *extra])
+            done = self.runner.run([found("wasm-ld"), "--no-entry", *links, *self.memory(pages),
+                                    *self.asked.links, *exports, f"--reproduce={self.folder}/inputs.tar",
+                                    "-o", linked, *objects, *extra])
             missing = set(re.findall(r"undefined symbol: (\S+)", done.errors))
             needed = re.search(r"memory too small, (\d+) bytes needed", done.errors)
             if done.status and missing and not extra:
@@ -113,7 +125,7 @@ class Builder:
                 pages = -(-int(needed[1]) // PAGE) + 1
             elif done.status:
                 raise self.refused(done, missing, needed is not None)
-            elif exports or self.asked.is_linked_with("--export") or any(sort == FUNCTION for sort, _ in read_module(linked).exports):
+            elif exports or self.asked.is_linked_with("--export") or exports_functions(read_module(linked)):
                 return read_module(linked)
             else:
                 exports = self.exports(objects) or ["--export-dynamic"]
@@ -132,7 +144,8 @@ class Builder:
 
     def lines(self) -> List[str]:
         """The lines of blade.h in all that the linker opened, linked or not."""
-        return [line for one in self.inputs() for line in (lines_of(one, self.runner, self.folder) if one.is_bitcode else lines_in(one.data))]
+        return [line for one in self.inputs()
+                for line in (lines_of(one, self.runner, self.folder) if one.is_bitcode else lines_in(one.data))]
 
     def strangers(self, linked: Module, names: Sequence[str], meant: Sequence[str]) -> List[str]:
         """What may be wrong with labels in code that blade-cc didn't compile, or that doesn't know them."""
@@ -140,7 +153,8 @@ class Builder:
         known = self.compiler.known_to_clang(set(asked)) if asked else []
         inputs = [one for one in self.inputs() if os.path.basename(one.path) != "blade-libc.o"]
         told = left_out_words(linked, inputs, self.asked.labels)
-        return told + of_inputs(linked, [(one, text_of(one, self.runner, self.folder) if one.is_bitcode else "") for one in inputs], asked, known)
+        texts = [text_of(one, self.runner, self.folder) if one.is_bitcode else "" for one in inputs]
+        return told + of_inputs(linked, list(zip(inputs, texts)), asked, known)
 
     def split(self, name: str) -> Module:
         linked, made = f"{self.folder}/linked.wasm", f"{self.folder}/{name}.wasm"
@@ -148,14 +162,21 @@ class Builder:
             os.remove(made)  # wasm-opt would follow a link
         done = self.runner.run([found("wasm-opt"), "-g", "--untee", "--ssa", linked, "-o", made])
         if done.status:
-            why = ": it can't read DWARF 5, so compile by blade-cc -c, or with -gdwarf-4" if has_dwarf_5(linked) else ""
-            raise Stop(BUILD, *filter(None, [done.errors.rstrip()]), f"blade-cc: error: wasm-opt ends with status {done.status}{why}")
+            why = (": it can't read DWARF 5, so compile by blade-cc -c, or with -gdwarf-4"
+                   if has_dwarf_5(linked) else "")
+            raise Stop(BUILD, *filter(None, [done.errors.rstrip()]),
+                       f"blade-cc: error: wasm-opt ends with status {done.status}{why}")
         return read_module(made)
+
+
+def exports_functions(module: Module) -> bool:
+    return any(sort == FUNCTION for sort, _ in module.exports)
 
 
 def is_clangs_own(flag: str) -> bool:
     """Whether a word asks for something that is no object."""
-    return flag in ALONE and flag not in ("-c", "-S") or flag.startswith(("-print-", "-dump")) or flag == "--version"
+    return (flag in ALONE and flag not in ("-c", "-S") or flag.startswith(("-print-", "-dump"))
+            or flag == "--version")
 
 
 def has_dwarf_5(path: str) -> bool:

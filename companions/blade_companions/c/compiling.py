@@ -1,4 +1,5 @@
-"""From a source to an object in which labelled functions are kept: clang's text for LLVM, what labels need in that, and code. Licence: public domain (CC0)."""
+"""From a source to an object in which labelled functions are kept: clang's text for LLVM, what labels need in
+that, and code. Licence: public domain (CC0)."""
 from __future__ import annotations
 
 import os
@@ -20,13 +21,15 @@ from .tools import HERE, INCLUDE, Runner, found
 TARGET = ["--target=wasm32", "-mcpu=mvp", "-gdwarf-4"]
 IMPLICIT = "-Werror=implicit-int"  # a macro of blade.h without blade.h would be a variable
 VISIBLE = "-fvisibility=default"  # else clang hides all functions of this target
-WASI = os.environ.get("WASI_SYSROOT", "/usr")  # as Debian's wasi-libc stands there, and wasi-sdk's in its own folder
+# as Debian's wasi-libc stands there, and wasi-sdk's in its own folder
+WASI = os.environ.get("WASI_SYSROOT", "/usr")
 WASI_HEADERS = f"{WASI}/include/wasm32-wasi"
 ASSEMBLER = (".s", ".S")
 BEFORE = ["-S", "-emit-llvm", "-Xclang", "-disable-llvm-passes", "-fno-discard-value-names"]
 # Words of the first step that the second one has no use for, by themselves or with the word behind them.
 FIRST = re.compile(r"-(I|D|U|isystem|iquote|idirafter|include|imacros|std|x|M|nostdinc|pedantic|ansi).*")
-FIRST_WITH_NEXT = frozenset("-I -D -U -include -isystem -idirafter -iquote -x -MF -MT -MQ -imacros -isysroot --sysroot -std".split())
+FIRST_WITH_NEXT = frozenset("-I -D -U -include -isystem -idirafter -iquote -x -MF -MT -MQ -imacros -isysroot "
+                            "--sysroot -std".split())
 
 
 class Compiler:
@@ -37,7 +40,8 @@ class Compiler:
 
     def words(self, source: str) -> List[str]:
         asked = self.asked
-        words = [found("clang++" if source.endswith((".cc", ".cpp", ".cxx", ".C")) else "clang"), *TARGET, VISIBLE, IMPLICIT]
+        words = [found("clang++" if source.endswith((".cc", ".cpp", ".cxx", ".C")) else "clang"), *TARGET,
+                 VISIBLE, IMPLICIT]
         if not any(flag.startswith("-O") for flag in asked.flags):
             words.append("-O2")
         if asked.way:
@@ -58,15 +62,18 @@ class Compiler:
         text = self.before(source, to, f"{base}.ll")
         later = any(flag.startswith(("-flto", "-emit-llvm")) for flag in self.asked.flags)
         words = [os.path.join(HERE, "blade-cc"), "--keep-labelled", f"{base}.ll", source]
-        self.runner.show([*words, *(["-flto"] if later else []), *[word for label in self.labels() for word in ("--label", label)]], f"{base}.kept.ll")
-        written_to(f"{base}.kept.ll", kept(text, source, self.asked.labels, later).encode("utf-8", "surrogateescape"))
+        labels = [word for label in self.labels() for word in ("--label", label)]
+        self.runner.show([*words, *(["-flto"] if later else []), *labels], f"{base}.kept.ll")
+        written_to(f"{base}.kept.ll",
+                   kept(text, source, self.asked.labels, later).encode("utf-8", "surrogateescape"))
         self.run([*self.words_behind(source), last, "-o", to, f"{base}.kept.ll"])
 
     def labels(self) -> List[str]:
         return [" ".join(self.asked.labels)] if self.asked.labels else []
 
     def before(self, source: str, to: str, between: str) -> str:
-        """LLVM's text of a source. clang knows some functions by name: where one of them is labelled it is told to forget that."""
+        """LLVM's text of a source. clang knows some functions by name: where one of them is labelled it is
+        told to forget that."""
         words = [*self.words(source), *self.depends(to), *BEFORE, "-o", between, source]
         self.run(words)
         text = read(between)
@@ -99,17 +106,19 @@ class Compiler:
         return [*head[: head.index("-isystem")], *flags, "-Wno-unused-command-line-argument"]
 
     def refuse_other_order(self, unit: Unit, source: str) -> None:
-        """A declaration may call another parameter so than the definition does: then nobody can tell which one a label means."""
+        """A declaration may call another parameter so than the definition does: then nobody can tell which
+        one a label means."""
         for label in unit.labels:
             named, name = label.named, label.function.name
             if named.kind == "secret-param" and not named.which.isdigit():
                 bare = name.partition("<")[0]
-                words = [*self.words(source), "-fsyntax-only", "-w", "-Xclang", "-ast-dump", "-Xclang", f"-ast-dump-filter={bare}",
-                         "-fno-color-diagnostics", source]
+                words = [*self.words(source), "-fsyntax-only", "-w", "-Xclang", "-ast-dump", "-Xclang",
+                         f"-ast-dump-filter={bare}", "-fno-color-diagnostics", source]
                 # The tree of an instance doesn't show which declaration it comes of.
                 if "<" in name or differing(self.runner.run(words, given="").out, bare, named.which):
                     place = source if named.where == BY_WORDS else named.where
-                    raise Stop(LABELS, f"{place}: error: declarations of {name} don't agree which parameter is {named.which}: give the same names, or its "
+                    raise Stop(LABELS, f"{place}: error: declarations of {name} don't agree which parameter "
+                               f"is {named.which}: give the same names, or its "
                                "number, from 0 [blade-label]")
 
     def known_to_clang(self, names: Set[str]) -> List[str]:
@@ -118,7 +127,8 @@ class Compiler:
         if not plain:
             return []
         asked = " ".join(f"__has_builtin({name})" for name in plain)
-        done = self.runner.run([found("clang"), "--target=wasm32", "-E", "-P", "-x", "c", "-"], given=asked + "\n")
+        done = self.runner.run([found("clang"), "--target=wasm32", "-E", "-P", "-x", "c", "-"],
+                               given=asked + "\n")
         return [name for name, answer in zip(plain, done.out.split()) if answer != "0"]
 
     def run(self, words: Sequence[str]) -> None:
@@ -132,7 +142,8 @@ class Compiler:
 def refuse_path(source: str) -> None:
     """A path stands in lines of assembler, which read some letters otherwise."""
     if not source.isprintable() or "\\" in source or '"' in source:
-        raise Stop(USAGE, f"blade-cc: error: {printable(source)}: labels stand in lines with the source's path, and a tab, a line's end, a backslash, a quote or a letter "
+        raise Stop(USAGE, f"blade-cc: error: {printable(source)}: labels stand in lines with the source's "
+                   "path, and a tab, a line's end, a backslash, a quote or a letter "
                    "that doesn't print would break them: rename it")
 
 
@@ -156,11 +167,13 @@ def kept(text: str, source: str, labels: Sequence[str], is_linked_later: bool) -
 
 
 def keep_labelled(words: Sequence[str]) -> int:
-    """The middle step by itself, to the standard output: blade-cc --keep-labelled FILE.ll SOURCE [-flto] [--label WORDS]."""
+    """The middle step by itself, to the standard output: blade-cc --keep-labelled FILE.ll SOURCE [-flto]
+    [--label WORDS]."""
     rest, labels = list(words), []
     while "--label" in rest:
         at = rest.index("--label")
         labels += shlex.split(rest[at + 1])
         del rest[at : at + 2]
-    sys.stdout.buffer.write(kept(read(rest[0]), rest[1], labels, "-flto" in rest).encode("utf-8", "surrogateescape"))
+    text = kept(read(rest[0]), rest[1], labels, "-flto" in rest)
+    sys.stdout.buffer.write(text.encode("utf-8", "surrogateescape"))
     return 0

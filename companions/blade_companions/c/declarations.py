@@ -1,4 +1,5 @@
-"""What C declares by the macros of blade.h, which stands in the section blade.secrets, turned into entries of blade.labels. Licence: public domain (CC0)."""
+"""What C declares by the macros of blade.h, which stands in the section blade.secrets, turned into entries of
+blade.labels. Licence: public domain (CC0)."""
 from __future__ import annotations
 
 import difflib
@@ -20,7 +21,8 @@ from ..formats.module import FUNCTION, GLOBAL, FuncType, Module
 NAME = "blade.secrets"
 MASK = re.compile(r"blade_secret_mask_(?:32|64)(?:[._]\d+)?")
 MOST_LINES, MOST_ERRORS = 4096, 50
-INCLUDED = "<built-in>"  # what clang calls the unit in a file that is named by -include: that goes to all units
+# what clang calls the unit in a file that is named by -include: that goes to all units
+INCLUDED = "<built-in>"
 NOTHING = "nothing is declared secret: BLADE_SECRET_PARAM or BLADE_SECRET_MEMORY of blade.h, or words; --unlabelled where that is meant"
 KEEP = "so keep it by __attribute__((noinline)), or declare the caller's parameter"
 
@@ -37,7 +39,8 @@ class Declared:
 
 
 class Labelled(NamedTuple):
-    """Entries, each with where it was declared; what is wrong with the others; and what is to be known besides."""
+    """Entries, each with where it was declared; what is wrong with the others; and what is to be known
+    besides."""
 
     entries: List[Tuple[Entry, str]]
     errors: List[str]
@@ -70,16 +73,19 @@ def lines_in(data: bytes) -> List[str]:
 
 
 def left_out(module: Module, lines: Sequence[str]) -> List[str]:
-    """What stands in units that the linker left out and yet speaks of the module: it would be public in silence. The lines are those of all units."""
+    """What stands in units that the linker left out and yet speaks of the module: it would be public in
+    silence. The lines are those of all units."""
     kept, told, names = set(declared(module)), [], names_of(module)
     for one in read_lines(lines):
         if one in kept:
             continue
         if one.kind == "secret-memory":
-            told.append(f"{one.where}: error: the memory is declared secret here, in a unit of a library that isn't linked: declare it beside "
+            told.append(f"{one.where}: error: the memory is declared secret here, "
+                        "in a unit of a library that isn't linked: declare it beside "
                         "a function that is used, or by --label 'secret-memory 0' [blade-label]")
         elif KINDS[one.kind].names[0] == "function" and (names.get(one.name) or not module.names):
-            told.append(f"{one.where}: error: {one.name} is labelled here, in a unit of a library that isn't linked: have the unit that defines "
+            told.append(f"{one.where}: error: {one.name} is labelled here, "
+                        "in a unit of a library that isn't linked: have the unit that defines "
                         f"{one.name} include this line [blade-label]")
     return told
 
@@ -127,7 +133,8 @@ class Resolver:
     def place(self, one: Declared) -> str:
         """Where a line stands: its file was named from the folder that its unit was compiled in."""
         path, _, number = one.where.rpartition(":")
-        tried = [path] + [os.path.join(self.folders[unit], path) for unit in sorted(one.units) if unit in self.folders]
+        tried = [path] + [os.path.join(self.folders[unit], path) for unit in sorted(one.units)
+                          if unit in self.folders]
         return f"{shown(next((it for it in tried if os.path.exists(it)), path))}:{number}"
 
     def function(self, name: str, where: str) -> Tuple[int, List[Subprogram]]:
@@ -139,7 +146,8 @@ class Resolver:
         if len(found) > 1:
             # Static ones of several files: that of the file that the line stands in.
             file = "/" + where.rpartition(":")[0]
-            here = {one.function for one in known if one.function in found and ("/" + one.path).endswith(file)}
+            here = {one.function for one in known if one.function in found
+                    and ("/" + one.path).endswith(file)}
             found = here if len(here) == 1 else found
         if len(found) == 1:
             return found.pop(), known
@@ -166,36 +174,44 @@ class Resolver:
             return int(word)
         name, count = self.module.function_name(function), len(self.module.type_of(function).params)
         if one is None or not one.params and count:
-            raise Bad(f"parameter {word} of {name}: the module doesn't say how parameters are called; compile with -g, or give its number")
+            raise Bad(f"parameter {word} of {name}: the module doesn't say how parameters are called; "
+                      "compile with -g, or give its number")
         names = [told.name for told in one.params]
         if names.count(word) != 1:
-            raise Bad(f"{name} has no parameter {word}{near(word, names) or ', but ' + (', '.join(names) or 'none')}")
+            raise Bad(f"{name} has no parameter "
+                      f"{word}{near(word, names) or ', but ' + (', '.join(names) or 'none')}")
         at, told = names.index(word), one.params[names.index(word)]
         local = told.local if told.local is not None and told.local < count else None
         if told.is_pointer:
             number = at if len(names) == count else "from 0"
-            raise Bad(f"{word} of {name} is a pointer: this would declare the address secret, not what stands there. For that: BLADE_SECRET_MEMORY "
+            raise Bad(f"{word} of {name} is a pointer: this would declare the address secret, "
+                      "not what stands there. For that: BLADE_SECRET_MEMORY "
                       f"(or give the number, {number}, where the address itself is secret)")
         if told.is_struct and local is None:
             # One of a single number is handed over as that.
-            raise Bad(f"{word} of {name} is a struct by value, of which the module gets the address or a part: give its members as parameters, "
+            raise Bad(f"{word} of {name} is a struct by value, of which the module gets the address or "
+                      "a part: give its members as parameters, "
                       "or declare the memory by BLADE_SECRET_MEMORY")
         return self.by_place(one, at, local, count)
 
     def by_place(self, one: Subprogram, at: int, local: Optional[int], count: int) -> int:
-        """Which parameter of the module the one at a place in C is: by its local, else by order, where that can be told."""
+        """Which parameter of the module the one at a place in C is: by its local, else by order, where that
+        can be told."""
         if len(one.params) == count and local in (None, at):
             return at
         if local is not None and len(one.params) != count:
             return local
-        if local is None and one.gives_struct and len(one.params) + 1 == count and not self.module.type_of(one.function).results:
+        gives_none = not self.module.type_of(one.function).results
+        if local is None and one.gives_struct and len(one.params) + 1 == count and gives_none:
             # Behind the address of the result.
             return at + 1
-        raise Bad(f"which parameter of the module {one.params[at].name} of {one.name} is can't be told ({len(one.params)} in C, {count} in the module: "
+        raise Bad(f"which parameter of the module {one.params[at].name} of {one.name} is can't be told "
+                  f"({len(one.params)} in C, {count} in the module: "
                   "a struct by value, or one that clang took apart): give its number")
 
     def has_line(self, defined: Subprogram, one: Declared) -> bool:
-        """Whether the unit that defines a function has a line. clang may call the unit by a whole path where it was given a part."""
+        """Whether the unit that defines a function has a line. clang may call the unit by a whole path where
+        it was given a part."""
         folder = self.folders.get(defined.unit, "")
         units = {os.path.normpath(os.path.join(folder, unit)) for unit in one.units}
         return INCLUDED in one.units or os.path.normpath(defined.path) in units
@@ -206,18 +222,24 @@ class Resolver:
         function, known = self.function(one.name, one.where)
         defined = next((it for it in known if it.function == function), None)
         if defined is None:
-            raise Bad(f"{self.module.function_name(function)} has no DWARF, so nobody can tell whether the unit that defines it has this line: compile with -g")
+            raise Bad(f"{self.module.function_name(function)} has no DWARF, "
+                      "so nobody can tell whether the unit that defines it has this line: compile with -g")
         if not self.has_line(defined, one):
-            raise Bad(f"{one.name} is defined in {defined.unit}, which doesn't have this line, so it may be inlined there, where nothing is declared: "
+            raise Bad(f"{one.name} is defined in {defined.unit}, which doesn't have this line, "
+                      "so it may be inlined there, where nothing is declared: "
                       "have that unit include it (-include FILE.h does without a change)")
         calls = copies(known, function)
         if one.kind == "secret-param" and calls:
-            raise Bad(f"{one.name} is inlined at {calls[0].path}:{calls[0].line}, and what it is given there isn't declared secret, {KEEP}")
-        return one.kind, (function, self.parameter(function, defined, one.which) if one.kind == "secret-param" else int(one.which))
+            raise Bad(f"{one.name} is inlined at {calls[0].path}:{calls[0].line}, "
+                      f"and what it is given there isn't declared secret, {KEEP}")
+        is_param = one.kind == "secret-param"
+        return one.kind, (function,
+                          self.parameter(function, defined, one.which) if is_param else int(one.which))
 
 
 def copies(told: Sequence[Subprogram], function: int) -> List[Call]:
-    """Where a function was inlined, as far as DWARF shows it: of a copy of which no instruction is left it says nothing."""
+    """Where a function was inlined, as far as DWARF shows it: of a copy of which no instruction is left it
+    says nothing."""
     return list(dict.fromkeys(call for it in told if it.function == function for call in it.inlined))
 
 
@@ -240,13 +262,15 @@ def of_source(module: Module, answered: Set[Named]) -> Labelled:
         if len(errors) > MOST_ERRORS:
             break
     check(module, [entry for entry, _ in found])
-    return Labelled(found, errors, [], tuple(one.name for one in lines if KINDS[one.kind].names[0] == "function"))
+    return Labelled(found, errors, [],
+                    tuple(one.name for one in lines if KINDS[one.kind].names[0] == "function"))
 
 
 def masks_of(module: Module) -> List[Entry]:
     """The masks of BLADE_SECRET: globals whose first values are secret."""
     imported = len(module.imported(GLOBAL))
-    return [("secret-global", (index,)) for index, name in sorted(module.global_names.items()) if MASK.fullmatch(name) and index >= imported]
+    return [("secret-global", (index,)) for index, name in sorted(module.global_names.items())
+            if MASK.fullmatch(name) and index >= imported]
 
 
 def named_by(one: Declared) -> Named:
@@ -260,19 +284,21 @@ def numbered(module: Module, words: Sequence[str]) -> List[str]:
         if made[at] == "secret-param" and not made[at + 2].isdigit():
             resolver = resolver or Resolver(module)
             function = number_of(module, "function", made[at + 1])
-            made[at + 2] = str(resolver.parameter(function, next((one for one in resolver.told if one.function == function), None), made[at + 2]))
+            defined = next((one for one in resolver.told if one.function == function), None)
+            made[at + 2] = str(resolver.parameter(function, defined, made[at + 2]))
     return made
 
 
 def without(words: Sequence[str], answered: Set[Named]) -> List[str]:
     """The words but for those of functions that are answered already."""
-    return [word for label in split(words) if len(label) != 3 or Named(*label, BY_WORDS) not in answered for word in label]
+    return [word for label in split(words) if len(label) != 3 or Named(*label, BY_WORDS) not in answered
+            for word in label]
 
 
 def joined(words: Sequence[str], more: Sequence[str]) -> List[str]:
     """Words, and those of further labels that they don't have."""
     labels = [tuple(one) for one in split(words)]
-    return [word for label in dict.fromkeys(labels + [tuple(one) for one in split(more) if tuple(one) not in labels]) for word in label]
+    return [word for label in dict.fromkeys([*labels, *map(tuple, split(more))]) for word in label]
 
 
 def split(words: Sequence[str]) -> List[List[str]]:
@@ -290,7 +316,8 @@ def types_of(module: Module) -> List[FuncType]:
 
 
 def labels_of(module: Module, words: Sequence[str] = (), linked: Optional[Module] = None) -> Labelled:
-    """What the source declares, and what words declare besides. The units of the linked module know more than the module that is made of it."""
+    """What the source declares, and what words declare besides. The units of the linked module know more than
+    the module that is made of it."""
     known = ByUnits(linked, words).found if linked else Resolved()
     if linked and types_of(linked) != types_of(module):
         raise Bad(f"{module.name}: wasm-opt has changed which functions there are")
@@ -299,9 +326,11 @@ def labels_of(module: Module, words: Sequence[str] = (), linked: Optional[Module
     rest = joined(without(words, known.answered), known.words)
     masks = [(entry, "") for entry in masks_of(module)]
     if known.marked and not masks:
-        errors.append(f"blade-cc: error: {shown(known.marked[0])} uses BLADE_SECRET, and the module doesn't have its masks by name: link without -s, and drop "
+        errors.append(f"blade-cc: error: {shown(known.marked[0])} uses BLADE_SECRET, "
+                      "and the module doesn't have its masks by name: link without -s, and drop "
                       "what nothing uses [blade-label]")
-    by_source = known.entries + masks + [one for one in source.entries if one[0] not in [entry for entry, _ in known.entries]]
+    by_source = known.entries + masks + [one for one in source.entries
+                                         if one[0] not in [entry for entry, _ in known.entries]]
     declared_before = [entry for entry, _ in by_source]
     by_words = [entry for entry in entries_in(module, numbered(module, rest)) if entry not in declared_before]
     check(module, declared_before + by_words)
@@ -309,22 +338,27 @@ def labels_of(module: Module, words: Sequence[str] = (), linked: Optional[Module
     told = subprograms(module) if params else []
     for function in dict.fromkeys(params):
         name = module.function_name(function)
-        errors += [f"{call.path}:{call.line}:{call.column}: error: {name} is inlined here, in {call.caller}, and what it is given isn't declared secret, {KEEP} "
+        errors += [f"{call.path}:{call.line}:{call.column}: error: {name} is inlined here, in {call.caller}, "
+                   f"and what it is given isn't declared secret, {KEEP} "
                    "[blade-inlined]" for call in copies(told, function)]
     others += tuple(named.name for named in [*of_words(rest), *known.answered])
     errors += other_names(linked, by_words) if linked else []
-    return Labelled(by_source + [(entry, "") for entry in by_words], known.errors + errors, [], others, known.called)
+    return Labelled(by_source + [(entry, "") for entry in by_words], known.errors + errors, [], others,
+                    known.called)
 
 
 def other_names(linked: Module, entries: Sequence[Entry]) -> List[str]:
-    """Words that name a function of a unit otherwise than the unit does: it was compiled without the label."""
+    """Words that name a function of a unit otherwise than the unit does: it was compiled without the
+    label."""
     named = {name for unit in units_of(linked) for one in unit.has for name in (one.symbol, one.name)}
     found = []
     for kind, (function, *_) in entries:
         told = linked.names.get(function, "") if KINDS[kind].names[0] == "function" else ""
-        names = {told, base(told), base(told).rpartition("::")[2], *called_as(linked, function)} if told else set()
+        called = {told, base(told), base(told).rpartition("::")[2], *called_as(linked, function)}
+        names = called if told else set()
         if names & named:
-            found.append(f"blade-cc: error: {kind}: the unit that defines {told} was compiled without this label: give its name in C, "
+            found.append(f"blade-cc: error: {kind}: the unit that defines {told} was compiled without this "
+                         "label: give its name in C, "
                          f"{min(names & named)}, to blade-cc -c, too [blade-label]")
     return found
 
@@ -333,7 +367,8 @@ def called_as(module: Module, function: int) -> List[str]:
     return [name for (sort, name), index in module.exports.items() if (sort, index) == (FUNCTION, function)]
 
 
-def with_source(module: Module, words: Sequence[str], replace: bool = False, unlabelled: bool = False, linked: Optional[Module] = None) -> Tuple[bytes, Labelled]:
+def with_source(module: Module, words: Sequence[str], replace: bool = False, unlabelled: bool = False,
+                linked: Optional[Module] = None) -> Tuple[bytes, Labelled]:
     """The module with the labels of its source and of words, which stand where nothing is wrong."""
     if is_labelled(module) and not replace:
         raise Bad("the module has a section blade.labels already: --replace, or --remove it")

@@ -1,4 +1,5 @@
-"""What DWARF says of a module's functions: their parameters, and where they were inlined. Versions 4 and 5, 32 bits. Licence: public domain (CC0)."""
+"""What DWARF says of a module's functions: their parameters, and where they were inlined. Versions 4 and 5,
+32 bits. Licence: public domain (CC0)."""
 from __future__ import annotations
 
 from dataclasses import dataclass, field
@@ -8,15 +9,18 @@ from ..formats.reading import Bad, Reader
 from ..formats.module import FUNCTION, Module
 
 COMPILE_UNIT, SUBPROGRAM, PARAMETER, INLINED, VARIABLE = 0x11, 0x2E, 0x05, 0x1D, 0x34
-POINTERS, AGGREGATES, PASSING = frozenset([0x0F, 0x10, 0x42, 0x01]), frozenset([0x13, 0x17, 0x02]), frozenset([0x16, 0x26, 0x35, 0x37, 0x47])
+POINTERS, AGGREGATES = frozenset([0x0F, 0x10, 0x42, 0x01]), frozenset([0x13, 0x17, 0x02])
+PASSING = frozenset([0x16, 0x26, 0x35, 0x37, 0x47])
 NAME, LOW_PC, LINKAGE, ORIGIN, SPECIFICATION, LOCATION, LINE, CALL_LINE, CALL_COLUMN, FOLDER, STR_BASE, ADDR_BASE, TYPE = (
     0x03, 0x11, 0x6E, 0x31, 0x47, 0x02, 0x3B, 0x59, 0x57, 0x1B, 0x72, 0x73, 0x49)
-WANTED = frozenset([NAME, LOW_PC, LINKAGE, ORIGIN, SPECIFICATION, LOCATION, LINE, CALL_LINE, CALL_COLUMN, FOLDER, STR_BASE, ADDR_BASE, TYPE])
-# The most entries, attributes and letters of strings, beside as many as the bytes of the file allow: a small file could name much more.
+WANTED = frozenset([NAME, LOW_PC, LINKAGE, ORIGIN, SPECIFICATION, LOCATION, LINE, CALL_LINE, CALL_COLUMN,
+                    FOLDER, STR_BASE, ADDR_BASE, TYPE])
+# The most entries, attributes and letters of strings, beside as many as the bytes of the file allow: a small
+# file could name much more.
 ENTRIES, BYTES_OF_ENTRY, WORK, WORK_OF_BYTE = 100_000, 20, 500_000, 2
 GONE = 0xFFFFFFF0  # the linker's addresses of what it dropped are above
-FIXED = {0x01: 4, 0x0B: 1, 0x05: 2, 0x06: 4, 0x07: 8, 0x0C: 1, 0x11: 1, 0x12: 2, 0x13: 4, 0x14: 8, 0x17: 4, 0x1E: 16, 0x20: 8,
-         0x25: 1, 0x26: 2, 0x27: 3, 0x28: 4, 0x29: 1, 0x2A: 2, 0x2B: 3, 0x2C: 4}
+FIXED = {0x01: 4, 0x0B: 1, 0x05: 2, 0x06: 4, 0x07: 8, 0x0C: 1, 0x11: 1, 0x12: 2, 0x13: 4, 0x14: 8, 0x17: 4,
+         0x1E: 16, 0x20: 8, 0x25: 1, 0x26: 2, 0x27: 3, 0x28: 4, 0x29: 1, 0x2A: 2, 0x2B: 3, 0x2C: 4}
 STRINGS, ADDRESSES = frozenset([0x1A, 0x25, 0x26, 0x27, 0x28]), frozenset([0x1B, 0x29, 0x2A, 0x2B, 0x2C])
 
 
@@ -30,7 +34,8 @@ class Call(NamedTuple):
 
 
 class Param(NamedTuple):
-    """A parameter of C: its name, the local that it stands in where DWARF says so, whether it is a pointer (or an array), and whether a struct."""
+    """A parameter of C: its name, the local that it stands in where DWARF says so, whether it is a pointer
+    (or an array), and whether a struct."""
 
     name: str
     local: Optional[int]
@@ -58,7 +63,8 @@ class Subprogram:
     path: str
     line: int
     unit: str = ""  # the unit's file as the compiler was given it
-    gives_struct: bool = False  # where to is the module's first parameter, then, but for a struct of one number
+    # where to is the module's first parameter, then, but for a struct of one number
+    gives_struct: bool = False
     function: Optional[int] = None
     params: List[Param] = field(default_factory=list)
     inlined: List[Call] = field(default_factory=list)
@@ -106,7 +112,8 @@ class Units:
         self.work -= work
         self.entries -= entries
         if self.work < 0 or self.entries < 0:
-            raise Bad(f"{self.name}: its DWARF names more than a file of its size should: leave it out (-g0, or llvm-strip --strip-debug)")
+            raise Bad(f"{self.name}: its DWARF names more than a file of its size should: leave it out (-g0, "
+                      "or llvm-strip --strip-debug)")
 
     def text(self, reader: Optional[Reader], place: int) -> str:
         """A string by its place, each read once."""
@@ -175,7 +182,8 @@ class Units:
             for attribute, value in entry.values.items():
                 if isinstance(value, tuple) and value[0] == "string":
                     place = self.base + 4 * value[1]
-                    entry.values[attribute] = self.text(self.strings, int.from_bytes(self.offsets.data[place : place + 4], "little"))
+                    offset = int.from_bytes(self.offsets.data[place : place + 4], "little")
+                    entry.values[attribute] = self.text(self.strings, offset)
                 elif isinstance(value, tuple) and value[0] == "address":
                     place = self.address_base + 4 * value[1]
                     entry.values[attribute] = int.from_bytes(self.addresses.data[place : place + 4], "little")
@@ -294,20 +302,23 @@ class Walk:
         if id(base) not in self.found:
             values = base.values
             self.found[id(base)] = Subprogram(
-                values.get(NAME, ""), values.get(LINKAGE, ""), self.path, values.get(LINE, 0), self.unit, self.type_of(base) in AGGREGATES)
+                values.get(NAME, ""), values.get(LINKAGE, ""), self.path, values.get(LINE, 0), self.unit,
+                self.type_of(base) in AGGREGATES)
         return self.found[id(base)]
 
     def param(self, entry: Entry) -> Param:
         base = self.origin(entry)
         tag = self.type_of(base)
-        return Param(base.values.get(NAME, ""), local_of(entry.values.get(LOCATION)), tag in POINTERS, tag in AGGREGATES)
+        return Param(base.values.get(NAME, ""), local_of(entry.values.get(LOCATION)), tag in POINTERS,
+                     tag in AGGREGATES)
 
     def inside(self, entry: Entry, caller: str) -> None:
         """What was inlined into a function."""
         for child in entry.children:
             if child.tag == INLINED:
                 values = child.values
-                self.told(child).inlined.append(Call(self.path, values.get(CALL_LINE, 0), values.get(CALL_COLUMN, 0), caller))
+                self.told(child).inlined.append(Call(self.path, values.get(CALL_LINE, 0),
+                                                     values.get(CALL_COLUMN, 0), caller))
             if child.tag != SUBPROGRAM:
                 self.inside(child, caller)
 
@@ -330,4 +341,5 @@ def subprograms(module: Module) -> List[Subprogram]:
 
 def variables(module: Module) -> Set[str]:
     """The names of C's variables at file scope."""
-    return {str(entry.values.get(NAME, "")) for root in Units(module).read() for entry in root.children if entry.tag == VARIABLE}
+    return {str(entry.values.get(NAME, "")) for root in Units(module).read() for entry in root.children
+            if entry.tag == VARIABLE}

@@ -1,5 +1,5 @@
-"""Every file that the linker opened, members of archives included whether they are linked or not, by its own copy of what it was given.
-Licence: public domain (CC0)."""
+"""Every file that the linker opened, members of archives included whether they are linked or not, by its own
+copy of what it was given. Licence: public domain (CC0)."""
 from __future__ import annotations
 
 import os
@@ -68,7 +68,7 @@ def members(archive: Input) -> Iterator[Input]:
             names = body
         elif name not in (b"/", b"/SYM64/"):
             told, body = called(archive, name, names, body)
-            yield Input(f"{archive.path}({told})", beside(archive, told)) if is_thin else Input(f"{archive.path}({told})", body)
+            yield Input(f"{archive.path}({told})", beside(archive, told) if is_thin else body)
 
 
 def number(archive: Input, text: bytes) -> int:
@@ -96,7 +96,8 @@ def beside(archive: Input, name: str) -> bytes:
         with open(path, "rb") as file:
             return file.read(MOST)
     except OSError as fault:
-        raise Bad(f"{archive.path}({name}): {fault.strerror}, so nobody can tell whether it has labels") from None
+        raise Bad(f"{archive.path}({name}): {fault.strerror}, "
+                  "so nobody can tell whether it has labels") from None
 
 
 def lines_of(one: Input, runner: Runner, folder: str) -> List[str]:
@@ -110,5 +111,6 @@ def text_of(one: Input, runner: Runner, folder: str) -> str:
     written_to(path, one.data)
     done = runner.run([found("clang"), "-x", "ir", "-S", "-emit-llvm", "-o", "-", path], given="")
     if done.status:
-        raise Stop(LABELS, f"blade-cc: error: {one.path}: LLVM's bitcode that clang can't read, so nobody can tell whether it has labels [blade-label]")
+        raise Stop(LABELS, f"blade-cc: error: {one.path}: LLVM's bitcode that clang can't read, "
+                   "so nobody can tell whether it has labels [blade-label]")
     return done.out

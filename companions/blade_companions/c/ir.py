@@ -1,5 +1,5 @@
-"""LLVM's text of a unit before any optimisation: the functions that it defines, their parameters in C and in the module, the lines of blade.h in it.
-Licence: public domain (CC0)."""
+"""LLVM's text of a unit before any optimisation: the functions that it defines, their parameters in C and in
+the module, the lines of blade.h in it. Licence: public domain (CC0)."""
 from __future__ import annotations
 
 import os
@@ -21,7 +21,8 @@ OPENING, CLOSING = "([{<", ")]}>"
 
 
 class Param(NamedTuple):
-    """A parameter in LLVM's text: its name, how many of the module it is (None where that isn't known), and its whole text."""
+    """A parameter in LLVM's text: its name, how many of the module it is (None where that isn't known), and
+    its whole text."""
 
     name: str
     size: Optional[int]
@@ -42,7 +43,8 @@ class Param(NamedTuple):
 
 @dataclass
 class Defined:
-    """A function that the unit defines: its symbol, its lines of the text, what it is called in C, and where it stands there."""
+    """A function that the unit defines: its symbol, its lines of the text, what it is called in C, and where
+    it stands there."""
 
     symbol: str
     start: int
@@ -52,7 +54,8 @@ class Defined:
     params: List[Param]
     name: str
     place: str = ""
-    numbered: Dict[int, str] = field(default_factory=dict)  # the names of C's parameters by their numbers, from 0
+    # the names of C's parameters by their numbers, from 0
+    numbered: Dict[int, str] = field(default_factory=dict)
 
     @property
     def is_local(self) -> bool:
@@ -61,8 +64,8 @@ class Defined:
 
 def unescaped(text: str) -> str:
     """What LLVM spells by \\XX, and by two backslashes."""
-    raw = re.sub(rb"\\(\\|[0-9A-Fa-f]{2})", lambda found: b"\\" if found[1] == b"\\" else bytes([int(found[1], 16)]),
-                 text.encode("utf-8", "surrogateescape"))
+    raw = re.sub(rb"\\(\\|[0-9A-Fa-f]{2})", lambda found: b"\\" if found[1] == b"\\"
+                 else bytes([int(found[1], 16)]), text.encode("utf-8", "surrogateescape"))
     return raw.decode("utf-8", "surrogateescape")
 
 
@@ -73,7 +76,8 @@ def plain(symbol: str) -> str:
 
 def is_symbol_of(symbol: str, name: str) -> bool:
     """Whether a symbol may be that of a function, by its name in C or C++."""
-    return symbol == name or symbol.partition(".")[0] == name or symbol.startswith("_Z") and f"{len(name)}{name}" in symbol
+    return (symbol == name or symbol.partition(".")[0] == name or symbol.startswith("_Z")
+            and f"{len(name)}{name}" in symbol)
 
 
 def first_type(text: str) -> str:
@@ -176,7 +180,8 @@ class Text:
         symbol, debug = plain(found[2]), re.search(r"!dbg (!\d+)", line)
         told = self.values(debug[1]) if debug else {}
         file = self.values(told.get("file", ""))
-        place = f"{os.path.normpath(os.path.join(file['directory'], file['filename']))}:{told['line']}" if file and "line" in told else ""
+        place = (f"{os.path.normpath(os.path.join(file['directory'], file['filename']))}:{told['line']}"
+                 if file and "line" in told else "")
         made = Defined(symbol, at, end, linkage, result, params, told.get("name", symbol), place)
         made.numbered = {-1: debug[1]} if debug else {}
         return made
@@ -202,7 +207,8 @@ class Text:
         line = next((one for one in self.lines if one.startswith("@llvm.global.annotations ")), "")
         names = MENTION.findall(line)
         pairs = [(plain(name), self.strings.get(text, "")) for name, text in zip(names, names[1:])]
-        return [(name, text) for name, text in pairs if text.split("\t")[0] in KINDS and text.count("\t") == 4]
+        return [(name, text) for name, text in pairs if text.split("\t")[0] in KINDS
+                and text.count("\t") == 4]
 
 
 def secrets_in(lines: Sequence[str]) -> List[str]:
@@ -210,7 +216,8 @@ def secrets_in(lines: Sequence[str]) -> List[str]:
     found = []
     for line in lines:
         if line.startswith("module asm "):
-            text = re.match(r'\s*\.ascii "((?:%s)\\t.*)\\n"$' % "|".join(KINDS), unescaped(line[len('module asm "') : -1]))
+            text = re.match(r'\s*\.ascii "((?:%s)\\t.*)\\n"$' % "|".join(KINDS),
+                            unescaped(line[len('module asm "') : -1]))
             if text:
                 found.append(asm_text(text[1]))
     return found
@@ -219,7 +226,8 @@ def secrets_in(lines: Sequence[str]) -> List[str]:
 def asm_text(text: str) -> str:
     """What an assembler makes of a text: \\t, \\n, octal numbers."""
     named = {"t": "\t", "n": "\n", "b": "\b", "f": "\f", "r": "\r"}
-    return re.sub(r"\\([0-7]{1,3}|.)", lambda found: chr(int(found[1], 8)) if found[1][0] in "01234567" else named.get(found[1], found[1]), text)
+    return re.sub(r"\\([0-7]{1,3}|.)", lambda found: chr(int(found[1], 8)) if found[1][0] in "01234567"
+                  else named.get(found[1], found[1]), text)
 
 
 def mentions(lines: Sequence[str]) -> List[str]:

@@ -16,7 +16,8 @@ HEADERS = (".h", ".inc", ".hpp")
 
 
 class Line(NamedTuple):
-    """A line of C: its file, its number (0 where it isn't known), the function it stands in, and the column (0 where it isn't known)."""
+    """A line of C: its file, its number (0 where it isn't known), the function it stands in, and the column
+    (0 where it isn't known)."""
 
     path: str
     number: int
@@ -81,7 +82,8 @@ class Lines:
             return
         wanted = defaultdict(set)
         for spot in map(self.spot, positions):
-            if spot and spot.linked.module.has_lines and (spot.linked.module.path, spot.inside) not in self.known:
+            if (spot and spot.linked.module.has_lines
+                    and (spot.linked.module.path, spot.inside) not in self.known):
                 wanted[spot.linked.module.path].add(spot.inside)
         for path, places in wanted.items():
             self.look_up(path, sorted(places))

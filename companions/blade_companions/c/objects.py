@@ -1,4 +1,5 @@
-"""Objects of WebAssembly, before they are linked: the functions that they give to others. Licence: public domain (CC0)."""
+"""Objects of WebAssembly, before they are linked: the functions that they give to others.
+Licence: public domain (CC0)."""
 from __future__ import annotations
 
 import re
@@ -16,7 +17,8 @@ MADE = re.compile(r"__original_main|__main_void|__main_argc_argv|(register_)?cal
 
 
 def given_by(path: str) -> Optional[List[str]]:
-    """The functions that an object defines for others, by name; None where it is no object of WebAssembly, such as LLVM's bitcode or an archive."""
+    """The functions that an object defines for others, by name; None where it is no object of WebAssembly,
+    such as LLVM's bitcode or an archive."""
     with open(path, "rb") as file:
         data = file.read()
     return given_in(data, path) if data.startswith(b"\0asm") else None

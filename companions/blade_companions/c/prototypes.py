@@ -1,15 +1,20 @@
-"""What the declarations of a function call its parameters, by clang's own account of a source. Licence: public domain (CC0)."""
+"""What the declarations of a function call its parameters, by clang's own account of a source.
+Licence: public domain (CC0)."""
 from __future__ import annotations
 
 import re
 from typing import Dict, List, NamedTuple, Set
 
-FUNCTION = re.compile(r"(?:Function|CXX(?:Method|Constructor|Destructor|Conversion))Decl (0x\w+) (?:parent 0x\w+ )?(?:prev (0x\w+) )?<.*?> \S+ (?:(?:used|referenced|implicit|invalid|constexpr) )*(\S+) '")
-PARAMETER = re.compile(r"[|`]-ParmVarDecl 0x\w+ (?:prev 0x\w+ )?<.*?> \S+ (?:(?:used|referenced|implicit|invalid|constexpr) )*(?:([^\s']+) )?'")
+FUNCTION = re.compile(r"(?:Function|CXX(?:Method|Constructor|Destructor|Conversion))Decl (0x\w+) "
+                      r"(?:parent 0x\w+ )?(?:prev (0x\w+) "
+                      r")?<.*?> \S+ (?:(?:used|referenced|implicit|invalid|constexpr) )*(\S+) '")
+PARAMETER = re.compile(r"[|`]-ParmVarDecl 0x\w+ (?:prev 0x\w+ )?<.*?> \S+ (?:(?:used|referenced|implicit"
+                       r"|invalid|constexpr) )*(?:([^\s']+) )?'")
 
 
 class Prototype(NamedTuple):
-    """A declaration: the first one of its function, its name, and what it calls the parameters ("" where it doesn't)."""
+    """A declaration: the first one of its function, its name, and what it calls the parameters ("" where it
+    doesn't)."""
 
     first: str
     name: str
@@ -38,5 +43,6 @@ def differing(text: str, name: str, parameter: str) -> bool:
         return True  # what isn't found isn't compared
     for one in prototypes_in(text):
         if one.name == name:
-            places.setdefault(one.first, set()).update(at for at, told in enumerate(one.params) if told == parameter)
+            places.setdefault(one.first, set()).update(at for at, told in enumerate(one.params)
+                                                       if told == parameter)
     return any(len(one) > 1 for one in places.values())

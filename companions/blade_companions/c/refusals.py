@@ -1,4 +1,5 @@
-"""What clang, the linker and the program refuse, where it stands in C, and what to do about it. Licence: public domain (CC0)."""
+"""What clang, the linker and the program refuse, where it stands in C, and what to do about it.
+Licence: public domain (CC0)."""
 from __future__ import annotations
 
 import re
@@ -9,10 +10,13 @@ from .tools import INCLUDE
 from ..formats.module import FUNCTION, GLOBAL, MEMORY, TABLE, Import, Module
 
 FLOAT_TYPES = (0x7C, 0x7D)
-FLOATS = frozenset([0x2A, 0x2B, 0x38, 0x39, 0x43, 0x44, *range(0x5B, 0x67), *range(0x8B, 0xA7), *range(0xA8, 0xAC), *range(0xAE, 0xC0)])
+FLOATS = frozenset([0x2A, 0x2B, 0x38, 0x39, 0x43, 0x44, *range(0x5B, 0x67), *range(0x8B, 0xA7),
+                    *range(0xA8, 0xAC), *range(0xAE, 0xC0)])
 BULK, CONVERSIONS = 0xFC, 8  # behind the prefix stand first so many conversions of floats
-OTHERS = {0xFD: "a vector", 0xFE: "an atomic access", 0x12: "a tail call", 0x13: "a tail call", 0xD0: "a reference", 0xD1: "a reference", 0xD2: "a reference",
-          0x25: "a table access", 0x26: "a table access", 0x1C: "a select with a type", 0x06: "an exception", 0x07: "an exception", 0x08: "an exception"}
+OTHERS = {0xFD: "a vector", 0xFE: "an atomic access", 0x12: "a tail call", 0x13: "a tail call",
+          0xD0: "a reference", 0xD1: "a reference", 0xD2: "a reference",
+          0x25: "a table access", 0x26: "a table access", 0x1C: "a select with a type", 0x06: "an exception",
+          0x07: "an exception", 0x08: "an exception"}
 BLOCKS, END, BR_TABLE = (0x02, 0x03, 0x04), 0x0B, 0x0E
 ONE_NUMBER = frozenset([0x0C, 0x0D, 0x10, 0x20, 0x21, 0x22, 0x23, 0x24, 0x3F, 0x40])
 DENSE = 200  # a switch of more cases is the likely reason of deep nesting
@@ -28,7 +32,8 @@ class Refusal(NamedTuple):
 
 
 class Body:
-    """Of a function's code: how deep it nests and where, how many locals it has, its longest br_table, and its first refused instruction."""
+    """Of a function's code: how deep it nests and where, how many locals it has, its longest br_table, and
+    its first refused instruction."""
 
     def __init__(self, module: Module, function: int, start: int, end: int) -> None:
         self.function, self.start = function, start
@@ -56,7 +61,8 @@ class Body:
         if code in FLOATS:
             self.refuse(place, "an instruction of floats")
         elif code == BULK:
-            self.refuse(place, "an instruction of floats" if reader.number() < CONVERSIONS else "an operation on whole memories")
+            self.refuse(place, "an instruction of floats" if reader.number() < CONVERSIONS
+                        else "an operation on whole memories")
         elif code in OTHERS:
             self.refuse(place, OTHERS[code])
         elif code in BLOCKS:
@@ -103,14 +109,18 @@ def refusal(module: Module, said: str) -> Refusal:
 
 def unsupported(module: Module) -> Refusal:
     if any(section.number == 8 for section in module.sections):
-        return Refusal(-1, -1, "the module has a start function, which blade doesn't take: export it and have it called (constructors of C++ and shared "
+        return Refusal(-1, -1, "the module has a start function, which blade doesn't take: "
+                       "export it and have it called (constructors of C++ and shared "
                        "memories make one) [blade-start]")
     first = next((one.refused for one in bodies_of(module) if one.refused), None)
     if first is None:
-        return Refusal(-1, -1, "something of a later WebAssembly stands outside of the functions [blade-instruction]")
+        return Refusal(-1, -1,
+                       "something of a later WebAssembly stands outside of the functions [blade-instruction]")
     if "float" in first.text:
-        return first._replace(text=f"{first.text}, which blade doesn't take: compute with integers [blade-float]")
-    return first._replace(text=f"{first.text}, which blade doesn't take: compile all with -mcpu=mvp alone, as blade-cc does [blade-instruction]")
+        return first._replace(text=f"{first.text}, which blade doesn't take: "
+                              "compute with integers [blade-float]")
+    return first._replace(text=f"{first.text}, which blade doesn't take: compile all with -mcpu=mvp alone, "
+                          "as blade-cc does [blade-instruction]")
 
 
 def above(module: Module, quantity: str, value: str) -> Refusal:
@@ -120,32 +130,41 @@ def above(module: Module, quantity: str, value: str) -> Refusal:
         deep = max(bodies, key=lambda one: one.most_depth)
         why = f"a switch of {deep.arms} cases" if deep.arms > DENSE else "deeply nested code"
         place = deep.switch if deep.arms > DENSE else deep.deepest
-        return Refusal(deep.function, place, f"{why} opens {value} blocks at once, and 256 are the most: use a table, or two switches [blade-nesting]")
+        return Refusal(deep.function, place, f"{why} opens {value} blocks at once, and 256 are the most: "
+                       "use a table, or two switches [blade-nesting]")
     if quantity == "targets":
         wide = max(bodies, key=lambda one: one.arms)
-        return Refusal(wide.function, wide.switch, f"a switch of {wide.arms} cases, and 1,024 are the most: use a table, or two switches [blade-nesting]")
+        return Refusal(wide.function, wide.switch, f"a switch of {wide.arms} cases, and 1,024 are the most: "
+                       "use a table, or two switches [blade-nesting]")
     if quantity == "locals":
         most = max(bodies, key=lambda one: one.locals)
-        return Refusal(most.function, most.start, f"{most.locals} locals (behind wasm-opt --ssa), and 4,096 are the most: split the function, or unroll "
+        return Refusal(most.function, most.start, f"{most.locals} locals (behind wasm-opt --ssa), "
+                       "and 4,096 are the most: split the function, or unroll "
                        "less [blade-locals]")
-    remedy = {"memory": "give fewer pages by --memory", "reserve": "give fewer pages by --memory", "module": "leave out what isn't needed: -Os, fewer exports",
-              "commands": "leave out what isn't needed: -Os, fewer exports", "functions": "export less by --export NAME"}.get(quantity, "docs/CLI.md, limits")
+    remedy = {"memory": "give fewer pages by --memory", "reserve": "give fewer pages by --memory",
+              "module": "leave out what isn't needed: -Os, fewer exports",
+              "commands": "leave out what isn't needed: -Os, fewer exports",
+              "functions": "export less by --export NAME"}.get(quantity, "docs/CLI.md, limits")
     return Refusal(-1, -1, f"{quantity} {value} is above the limit: {remedy} [blade-limit]")
 
 
 def not_given(one: Import, is_mismatch: bool) -> Refusal:
     if one.module in ("ledger", "vault"):
-        return Refusal(-1, -1, f"the {SORTS[one.sort]} {one.name} is imported from {one.module}: compile and link with --{one.module} [blade-import]")
+        return Refusal(-1, -1, f"the {SORTS[one.sort]} {one.name} is imported from {one.module}: "
+                       f"compile and link with --{one.module} [blade-import]")
     why = "has another type there" if is_mismatch else "no module gives"
-    more = ": wasi-libc asks the system for it, for input, output or the clock" if one.module.startswith("wasi") else ""
-    return Refusal(-1, -1, f"the {SORTS[one.sort]} {one.name} is imported from {one.module}, which {why}{more}: give a file that defines it, or leave out what "
+    more = (": wasi-libc asks the system for it, for input, output or the clock"
+            if one.module.startswith("wasi") else "")
+    return Refusal(-1, -1, f"the {SORTS[one.sort]} {one.name} is imported from {one.module}, "
+                   f"which {why}{more}: give a file that defines it, or leave out what "
                    "uses it [blade-import]")
 
 
 def about_headers(errors: str) -> List[str]:
     """What to do about headers that clang doesn't find, and about a clang that can't make WebAssembly."""
     missing = dict.fromkeys(re.findall(r"fatal error: '([^']+)' file not found", errors))
-    told = [f"blade-cc: note: {name}: {INCLUDE}/freestanding has what blade-cc has of a C library; apt-get install wasi-libc has more, and -I names folders"
+    told = [f"blade-cc: note: {name}: {INCLUDE}/freestanding has what blade-cc has of a C library; "
+            "apt-get install wasi-libc has more, and -I names folders"
             for name in missing]
     if "No available targets" in errors or "unable to create target" in errors:
         told.append("blade-cc: note: this clang lacks WebAssembly: apt-get install clang")
@@ -157,10 +176,12 @@ def about_symbols(missing: Iterable[str]) -> List[str]:
     told = []
     for name in sorted(missing):
         if re.fullmatch(r"__\w*?(mul|div|mod|ashl|ashr|lshr)\w*t[if]\d|__multi3", name):
-            told.append(f"{name} is made of __int128: apt-get install libclang-rt-14-dev-wasm32 (or of your clang's version), or use smaller products")
+            told.append(f"{name} is made of __int128: apt-get install libclang-rt-14-dev-wasm32 (or of "
+                        "your clang's version), or use smaller products")
         elif re.fullmatch(r"__\w+(sf|df|tf)\w*\d?", name):
             told.append(f"{name} is made of floats, which blade doesn't take")
         else:
-            told.append(f"{name} stands in no file that was given: name its file; of the C library blade-cc has memcpy, memmove, memset and memcmp, and "
+            told.append(f"{name} stands in no file that was given: name its file; "
+                        "of the C library blade-cc has memcpy, memmove, memset and memcmp, and "
                         "apt-get install wasi-libc has the rest")
     return [f"blade-cc: note: {one}" for one in told]

@@ -1,5 +1,5 @@
-"""Code in a linked module that blade-cc didn't compile, or in which clang may compute a labelled function by itself: nothing there keeps the label.
-Licence: public domain (CC0)."""
+"""Code in a linked module that blade-cc didn't compile, or in which clang may compute a labelled function by
+itself: nothing there keeps the label. Licence: public domain (CC0)."""
 from __future__ import annotations
 
 import re
@@ -20,8 +20,10 @@ HAS = re.compile(r'\s*\.ascii "(has\\.*)"$')
 MARK = b"blade_secret_mask_"
 # Functions whose calls LLVM computes or replaces, beside those that clang knows itself.
 REPLACED = frozenset(
-    "abs labs llabs ffs ffsl ffsll isascii isdigit toascii atoi atol atoll strlen strnlen strcmp strncmp strcpy strncpy stpcpy stpncpy strcat strncat strchr "
-    "strrchr strstr strspn strcspn strpbrk strtol strtoll strtoul strtoull memcmp bcmp bcopy bzero memchr memrchr memcpy memmove memset mempcpy memccpy wcslen "
+    "abs labs llabs ffs ffsl ffsll isascii isdigit toascii atoi atol atoll strlen strnlen strcmp strncmp "
+    "strcpy strncpy stpcpy stpncpy strcat strncat strchr "
+    "strrchr strstr strspn strcspn strpbrk strtol strtoll strtoul strtoull memcmp bcmp bcopy bzero memchr "
+    "memrchr memcpy memmove memset mempcpy memccpy wcslen "
     "putchar puts printf fprintf sprintf snprintf malloc calloc realloc free".split())
 
 
@@ -38,7 +40,8 @@ def units_within(one: Input) -> List[Unit]:
 
 def recorded_in(lines: Sequence[str]) -> Set[str]:
     """The same in LLVM's text."""
-    told = [HAS.match(unescaped(line[len('module asm "') : -1])) for line in lines if line.startswith("module asm ")]
+    told = [HAS.match(unescaped(line[len('module asm "') : -1])) for line in lines
+            if line.startswith("module asm ")]
     return {asm_text(one[1]).split("\t")[1] for one in told if one}
 
 
@@ -48,7 +51,8 @@ def strange(one: Input, text: str) -> Tuple[List[str], bool]:
         lines = text.split("\n")
         known = recorded_in(lines)
         names = [plain(found[2]) for found in map(DEFINED.match, lines) if found]
-        return [name for name in names if name not in known and name.partition(".")[0] not in known], bool(known)
+        unknown = [name for name in names if name not in known and name.partition(".")[0] not in known]
+        return unknown, bool(known)
     known = {has.symbol for unit in units_within(one) for has in unit.has} if one.is_object else set()
     return plain_functions(one, known) if one.is_object else [], bool(known)
 
@@ -72,18 +76,22 @@ def why(one: Input, text: str, names: Sequence[str], known: Sequence[str]) -> Op
     return None
 
 
-def of_inputs(linked: Module, inputs: Sequence[Tuple[Input, str]], names: Sequence[str], known: Sequence[str]) -> List[str]:
+def of_inputs(linked: Module, inputs: Sequence[Tuple[Input, str]], names: Sequence[str],
+              known: Sequence[str]) -> List[str]:
     """What is wrong, given the labelled functions and those of them that clang has code of its own for."""
     known = sorted({*known, *(REPLACED & set(names))})
-    return [*copies(inputs, names, known), *unseen(linked, known), *unmarked(linked, [one for one, _ in inputs])]
+    return [*copies(inputs, names, known), *unseen(linked, known),
+            *unmarked(linked, [one for one, _ in inputs])]
 
 
 def copies(inputs: Sequence[Tuple[Input, str]], names: Sequence[str], known: Sequence[str]) -> Iterator[str]:
     for one, text in inputs:
         found = why(one, text, names, known)
         if found:
-            yield (f"blade-cc: error: blade-cc didn't compile {shown(one.path)}, so a copy of {found[0]}, which is labelled, may stand in {found[1]}, where "
-                   f"nothing is declared: compile it by blade-cc -c, or say --public-callers={found[0]} if there is none [blade-caller]")
+            yield (f"blade-cc: error: blade-cc didn't compile {shown(one.path)}, so a copy of {found[0]}, "
+                   f"which is labelled, may stand in {found[1]}, where "
+                   "nothing is declared: compile it by blade-cc -c, "
+                   f"or say --public-callers={found[0]} if there is none [blade-caller]")
 
 
 def unseen(linked: Module, known: Sequence[str]) -> Iterator[str]:
@@ -91,20 +99,26 @@ def unseen(linked: Module, known: Sequence[str]) -> Iterator[str]:
     for unit in units_of(linked):
         for name in known:
             if name not in {named.name for named in unit.sees}:
-                yield (f"blade-cc: error: clang computes calls of {name} by itself, and {shown(unit.path)} is compiled without the label of {name}: give it "
-                       f"the line (-include FILE.h does without a change), call the function otherwise, or say --public-callers={name} [blade-label]")
+                yield (f"blade-cc: error: clang computes calls of {name} by itself, "
+                       f"and {shown(unit.path)} is compiled without the label of {name}: give it "
+                       "the line (-include FILE.h does without a change), call the function otherwise, "
+                       f"or say --public-callers={name} [blade-label]")
 
 
 def left_out_words(linked: Module, inputs: Sequence[Input], words: Sequence[str]) -> List[str]:
     """Labels of memories that words gave to units of libraries that aren't linked."""
-    known = {" ".join(one) for told in [words, *(unit.words for unit in units_of(linked))] for one in split(told)}
-    return [f"blade-cc: error: {shown(unit.path)} was compiled with --label {' '.join(label)!r}, and isn't linked: give the label to this call, too [blade-label]"
-            for one in inputs if one.is_object for unit in units_within(one) for label in split(unit.words) if " ".join(label) not in known]
+    known = {" ".join(one) for told in [words, *(unit.words for unit in units_of(linked))]
+             for one in split(told)}
+    return [f"blade-cc: error: {shown(unit.path)} was compiled with --label {' '.join(label)!r}, "
+            "and isn't linked: give the label to this call, too [blade-label]"
+            for one in inputs if one.is_object for unit in units_within(one) for label in split(unit.words)
+            if " ".join(label) not in known]
 
 
 def unmarked(linked: Module, inputs: Sequence[Input]) -> Iterator[str]:
     if not any(MASK.fullmatch(name) for name in linked.global_names.values()):
         for one in inputs:
             if MARK in one.data and not one.path.endswith(")"):
-                yield (f"blade-cc: error: {shown(one.path)} uses BLADE_SECRET, and the module doesn't have its masks by name: link without -s, and drop "
+                yield (f"blade-cc: error: {shown(one.path)} uses BLADE_SECRET, "
+                       "and the module doesn't have its masks by name: link without -s, and drop "
                        "what nothing uses [blade-label]")

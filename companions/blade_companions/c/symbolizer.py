@@ -1,4 +1,5 @@
-"""What llvm-symbolizer tells of places in a module's code. Its answers are JSON, a line each, which no name can forge. Licence: public domain (CC0)."""
+"""What llvm-symbolizer tells of places in a module's code. Its answers are JSON, a line each, which no name
+can forge. Licence: public domain (CC0)."""
 from __future__ import annotations
 
 import json
@@ -47,7 +48,8 @@ def frames_of(tool: str, path: str, places: Sequence[int]) -> Iterator[Tuple[int
     with tempfile.TemporaryFile() as asked:
         asked.write("".join(f"{place:#x}\n" for place in places).encode())
         asked.seek(0)
-        with subprocess.Popen(words, stdin=asked, stdout=subprocess.PIPE, stderr=subprocess.DEVNULL, env=setting, preexec_fn=bounded) as running:
+        with subprocess.Popen(words, stdin=asked, stdout=subprocess.PIPE, stderr=subprocess.DEVNULL,
+                              env=setting, preexec_fn=bounded) as running:
             watch = threading.Timer(SECONDS, running.kill)
             watch.start()
             try:
@@ -71,4 +73,5 @@ def answers(told: IO[bytes], places: Sequence[int]) -> Iterator[Tuple[int, List[
 
 def frame_of(one: dict) -> Frame:
     path = sys.intern(str(one["FileName"]))
-    return Frame(path if len(path) <= PATH else "", int(one["Line"]), int(one["Column"]), sys.intern(called(str(one["FunctionName"]))))
+    return Frame(path if len(path) <= PATH else "", int(one["Line"]), int(one["Column"]),
+                 sys.intern(called(str(one["FunctionName"]))))

@@ -1,4 +1,5 @@
-"""The tools that blade-cc runs: where they are, whether they are new enough, and what they are told. Licence: public domain (CC0)."""
+"""The tools that blade-cc runs: where they are, whether they are new enough, and what they are told.
+Licence: public domain (CC0)."""
 from __future__ import annotations
 
 import functools
@@ -20,7 +21,8 @@ NEWEST = 22  # Debian's names of tools with a version, clang-14 and so on, are l
 
 
 class Tool(NamedTuple):
-    """A tool: Debian's package that has it, the least version that is known to do, and what may be missing below that."""
+    """A tool: Debian's package that has it, the least version that is known to do, and what may be missing
+    below that."""
 
     package: str
     least: int
@@ -40,19 +42,22 @@ TOOLS = {
 def found(name: str) -> str:
     """The name that a tool has here; one that is missing or too old ends the work."""
     tool = TOOLS[name]
-    here = next((one for one in (name, *(f"{name}-{version}" for version in range(NEWEST, 12, -1))) if shutil.which(one)), None)
+    here = next((one for one in (name, *(f"{name}-{version}" for version in range(NEWEST, 12, -1)))
+                 if shutil.which(one)), None)
     if here is None:
         raise Stop(MISSING, f"blade-cc: error: there is no {name}: apt-get install {tool.package}")
     told = subprocess.run([here, "--version"], capture_output=True, text=True, check=False).stdout
     version = re.search(r"(?:version |LLD )(\d+)", told)
     if version and int(version[1]) < tool.least:
-        raise Stop(MISSING, f"blade-cc: error: {here} is of version {version[1]}; before {tool.least} it may lack {tool.lacks}: "
+        raise Stop(MISSING, f"blade-cc: error: {here} is of version {version[1]}; "
+                   f"before {tool.least} it may lack {tool.lacks}: "
                    f"apt-get install a newer {tool.package}")
     return here
 
 
 def program(given: str) -> str:
-    """blade: as words or the variable BLADE give it, else the launcher of this release or clone, else blade of the path."""
+    """blade: as words or the variable BLADE give it, else the launcher of this release or clone, else blade
+    of the path."""
     launcher = os.path.join(TOP, "blade")
     for one in (given, os.environ.get("BLADE")):
         if one and shutil.which(one):
@@ -60,10 +65,12 @@ def program(given: str) -> str:
     if os.path.exists(launcher):
         if ready_program():
             return launcher
-        raise Stop(MISSING, f"blade-cc: error: {launcher} isn't built yet: run it once, or give a program by --blade PROGRAM or BLADE")
+        raise Stop(MISSING, f"blade-cc: error: {launcher} isn't built yet: run it once, "
+                   "or give a program by --blade PROGRAM or BLADE")
     if shutil.which("blade"):
         return "blade"
-    raise Stop(MISSING, "blade-cc: error: there is no blade: give it by --blade PROGRAM or BLADE, or install a release")
+    raise Stop(MISSING, "blade-cc: error: there is no blade: give it by --blade PROGRAM or BLADE, "
+               "or install a release")
 
 
 class Ran(NamedTuple):
@@ -85,12 +92,15 @@ class Runner:
         if self.is_shown:
             print(f" {text}", file=sys.stderr, flush=True)
 
-    def run(self, words: Sequence[str], to: str = "", errors: Optional[int] = subprocess.PIPE, given: Optional[str] = None) -> Ran:
-        """What is printed goes to a file, too, where one is named; errors are kept, or go on to who asked (None). A question that is given on the standard
-        input isn't shown, since nothing comes of it but further words."""
+    def run(self, words: Sequence[str], to: str = "", errors: Optional[int] = subprocess.PIPE,
+            given: Optional[str] = None) -> Ran:
+        """What is printed goes to a file, too, where one is named; errors are kept, or go on to who asked
+        (None). A question that is given on the standard input isn't shown, since nothing comes of it but
+        further words."""
         if given is None:
             self.show(words, to)
-        done = subprocess.run(words, input=given, stdout=subprocess.PIPE, stderr=errors, text=True, errors="replace", check=False)
+        done = subprocess.run(words, input=given, stdout=subprocess.PIPE, stderr=errors, text=True,
+                              errors="replace", check=False)
         if to:
             written_to(to, done.stdout.encode())
         return Ran(done.returncode, done.stdout, done.stderr or "")

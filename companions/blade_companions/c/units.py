@@ -1,4 +1,5 @@
-"""The units of a linked module, as the section blade.units records them, and the labels of functions that come of that. Licence: public domain (CC0)."""
+"""The units of a linked module, as the section blade.units records them, and the labels of functions that
+come of that. Licence: public domain (CC0)."""
 from __future__ import annotations
 
 import os
@@ -17,7 +18,8 @@ WHERE_WORDS = "blade-cc"  # what is wrong with words stands in no file
 
 
 class Has(NamedTuple):
-    """A function that a unit defines: its symbol, its name in C, where it stands in the source, its sort (local, inline or one), and whether it is kept."""
+    """A function that a unit defines: its symbol, its name in C, where it stands in the source, its sort
+    (local, inline or one), and whether it is kept."""
 
     symbol: str
     name: str
@@ -27,8 +29,9 @@ class Has(NamedTuple):
 
 
 class Label(NamedTuple):
-    """A label at a function that a unit defines: the function's place in the code (0 where the linker dropped it), its symbol and sort, the number of the
-    parameter in the module or ! and why there is none, how many it has, and the parameter's name in C."""
+    """A label at a function that a unit defines: the function's place in the code (0 where the linker dropped
+    it), its symbol and sort, the number of the parameter in the module or ! and why there is none, how many
+    it has, and the parameter's name in C."""
 
     named: Named
     symbol: str
@@ -50,7 +53,8 @@ class Unit:
     has_marks: bool = False  # whether it uses BLADE_SECRET
     has: List[Has] = field(default_factory=list)
     labels: List[Label] = field(default_factory=list)
-    calls: List[Tuple[str, int]] = field(default_factory=list)  # a labelled function, and the place in the code of one that leads to it
+    # a labelled function, and the place in the code of one that leads to it
+    calls: List[Tuple[str, int]] = field(default_factory=list)
 
 
 def row_of(reader: Reader) -> List[str]:
@@ -90,7 +94,8 @@ def read_row(reader: Reader, found: List[Unit]) -> None:
         elif kind == "has":
             found[-1].has.append(Has(*parts[:4], is_kept=parts[4] == "kept"))
         elif kind == "label":
-            found[-1].labels.append(Label(Named(*parts[:4]), *parts[4:], place=int.from_bytes(reader.take(4), "little")))
+            found[-1].labels.append(Label(Named(*parts[:4]), *parts[4:],
+                                          place=int.from_bytes(reader.take(4), "little")))
         elif kind == "calls":
             found[-1].calls.append((parts[0], int.from_bytes(reader.take(4), "little")))
         else:
@@ -107,7 +112,8 @@ def starts_of(module: Module) -> Dict[int, int]:
 
 @dataclass
 class Resolved:
-    """Labels of functions with where they were declared; what is wrong; and which lines and words are answered by that."""
+    """Labels of functions with where they were declared; what is wrong; and which lines and words are
+    answered by that."""
 
     entries: List[Tuple[Entry, str]] = field(default_factory=list)
     errors: List[str] = field(default_factory=list)
@@ -128,7 +134,8 @@ class Resolver:
         self.found.words = [word for unit in self.units for word in unit.words]
         for named in dict.fromkeys([named for unit in self.units for named in unit.sees] + of_words(words)):
             if named.name.isdigit() and self.units:
-                raise Bad(f"{' '.join(named[:3])}: name the function, since its number isn't known before all is linked")
+                raise Bad(f"{' '.join(named[:3])}: name the function, "
+                          "since its number isn't known before all is linked")
             self.resolve(named)
 
     def fail(self, named: Named, why: str) -> None:
@@ -144,23 +151,29 @@ class Resolver:
         """The entry of a line or of words, or what is wrong."""
         own = [label for label in self.labels if label.named == named]
         if not own and named.where == BY_WORDS:
-            # Words at the link alone: what they say stands in the source as well, or the unit was compiled without it.
-            own = [label for label in self.labels if label.named[:3] == named[:3] or (label.named.kind, label.named.which) == (named.kind, named.which)
+            # Words at the link alone: what they say stands in the source as well, or the unit was compiled
+            # without it.
+            own = [label for label in self.labels if label.named[:3] == named[:3]
+                   or (label.named.kind, label.named.which) == (named.kind, named.which)
                    and label.symbol == named.name]
         if not own:
-            own = [label for label in self.labels if label.named[:3] == named[:3] and label.sort == "one" and label.named.where != BY_WORDS]
+            own = [label for label in self.labels if label.named[:3] == named[:3] and label.sort == "one"
+                   and label.named.where != BY_WORDS]
             elsewhere = True
         else:
             elsewhere = False  # whether the line stands in units that don't define the function
-        copies = [unit for unit in self.units if any((self.is_copy(one, named, own, unit) or elsewhere and self.is_called(one, named))
-                                                     and not one.is_kept for one in unit.has)]
-        if not own and not copies and not any(self.is_called(one, named) for unit in self.units for one in unit.has):
+        copies = [unit for unit in self.units
+                  if any((self.is_copy(one, named, own, unit) or elsewhere and self.is_called(one, named))
+                         and not one.is_kept for one in unit.has)]
+        if not own and not copies and not any(self.is_called(one, named) for unit in self.units
+                                              for one in unit.has):
             return  # nothing that was compiled by blade-cc has it
         self.found.answered.add(named)
         if copies:
             self.fail(named, self.why_copy(named, copies[0]))
         elif not own:
-            self.fail(named, f"{named.name} was compiled without this label: give {' '.join(named[:3])!r} to blade-cc -c as well, by --label, or declare it "
+            self.fail(named, f"{named.name} was compiled without this label: "
+                      f"give {' '.join(named[:3])!r} to blade-cc -c as well, by --label, or declare it "
                              "in the source")
         else:
             self.settle(named, own)
@@ -172,7 +185,8 @@ class Resolver:
         return one.symbol == one.name and is_symbol_of(one.symbol, named.name.rpartition("::")[2])
 
     def is_copy(self, one: Has, named: Named, own: Sequence[Label], unit: Unit) -> bool:
-        """Whether a function of a unit is, by its symbol or its place in the source, the one that a label means."""
+        """Whether a function of a unit is, by its symbol or its place in the source, the one that a label
+        means."""
         if not own:
             return self.is_called(one, named)
         symbols = {label.symbol for label in own if label.sort != "local"}
@@ -180,7 +194,8 @@ class Resolver:
             return True
         # One header may have two paths, and what was preprocessed has none.
         places = {os.path.basename(place) for place in self.places(own)}
-        is_unknown = named.where == BY_WORDS or not one.place or "" in places or unit.path.endswith((".i", ".ii"))
+        is_unknown = (named.where == BY_WORDS or not one.place or "" in places
+                      or unit.path.endswith((".i", ".ii")))
         return self.is_called(one, named) and (is_unknown or os.path.basename(one.place) in places)
 
     def places(self, own: Sequence[Label]) -> Set[str]:
@@ -191,17 +206,20 @@ class Resolver:
         what = "label" if named.where == BY_WORDS else "line"
         remedy = (f"give --label {' '.join(named[:3])!r} to blade-cc -c, too" if named.where == BY_WORDS else
                   "have that unit include it (-include FILE.h does without a change)")
-        return (f"{named.name} is defined in {shown(unit.path)}, which doesn't have this {what}, so it may be inlined there, where nothing is declared: "
+        return (f"{named.name} is defined in {shown(unit.path)}, which doesn't have this {what}, "
+                "so it may be inlined there, where nothing is declared: "
                 f"{remedy}")
 
     def settle(self, named: Named, own: Sequence[Label]) -> None:
         """The entries of labels whose functions are there."""
         alive = [label for label in own if label.place in self.starts]
         if not alive:
-            self.fail(named, f"{named.name} isn't in the module: nothing uses it, so the linker or clang dropped it; export it, or drop the line")
+            self.fail(named, f"{named.name} isn't in the module: nothing uses it, "
+                      "so the linker or clang dropped it; export it, or drop the line")
         if named.where == BY_WORDS and len({label.place for label in alive}) > 1:
             places = ", ".join(sorted(shown_place(one) for one in self.places(own) if one))
-            self.fail(named, f"{len({label.place for label in alive})} functions are called {named.name} ({places}): give one of them another name")
+            self.fail(named, f"{len({label.place for label in alive})} functions are called {named.name} "
+                      f"({places}): give one of them another name")
             return
         for label in alive:
             self.add(named, label)
@@ -209,12 +227,14 @@ class Resolver:
     def add(self, named: Named, label: Label) -> None:
         function = self.starts[label.place]
         count = len(self.module.type_of(function).params)
-        if self.module.names.get(function, "").startswith("__wrap_") and not label.symbol.startswith("__wrap_"):
-            self.fail(named, f"the linker has {self.module.names[function]} called in place of {named.name} (--wrap): label that one")
+        name = self.module.names.get(function, "")
+        if name.startswith("__wrap_") and not label.symbol.startswith("__wrap_"):
+            self.fail(named, f"the linker has {name} called in place of {named.name} (--wrap): label that one")
         elif label.number.startswith("!"):
             self.fail(named, label.number[1:])
         elif label.count != str(count):
-            self.fail(named, f"{named.name} has {count} parameters in the module and {label.count} by its source, so nobody can tell which one is "
+            self.fail(named, f"{named.name} has {count} parameters in the module and {label.count} by its "
+                      "source, so nobody can tell which one is "
                              f"{named.which}: declare a caller's parameter")
         else:
             for one in [function, *self.wrappers(function)]:
@@ -229,7 +249,8 @@ class Resolver:
     def wrappers(self, function: int) -> List[int]:
         """What the linker exports in place of a function, where constructors run first."""
         wanted = f"{self.module.names.get(function, '')}.command_export"
-        return [index for index, name in self.module.names.items() if name == wanted and self.module.functions[index] == self.module.functions[function]]
+        return [index for index, name in self.module.names.items() if name == wanted
+                and self.module.functions[index] == self.module.functions[function]]
 
 
 def shown_place(where: str, folders: Sequence[str] = ()) -> str:

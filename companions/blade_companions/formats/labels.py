@@ -1,4 +1,5 @@
-"""The section blade.labels of a module: what is secret there, and what has to stay public. Licence: public domain (CC0)."""
+"""The section blade.labels of a module: what is secret there, and what has to stay public.
+Licence: public domain (CC0)."""
 from __future__ import annotations
 
 import hashlib
@@ -56,7 +57,8 @@ def sum_of(module: Module) -> bytes:
     told = hashlib.sha256()
     for section in module.sections:
         if section.number in SUMMED:
-            told.update(bytes([section.number]) + leb(section.end - section.contents) + module.data[section.contents : section.end])
+            told.update(bytes([section.number]) + leb(section.end - section.contents)
+                        + module.data[section.contents : section.end])
     return told.digest()
 
 
@@ -66,14 +68,16 @@ def sum_section(module: Module) -> bytes:
 
 
 def is_changed(module: Module) -> bool:
-    """Whether the module isn't the one any more that its labels were made for. One without a sum was labelled by another tool."""
+    """Whether the module isn't the one any more that its labels were made for. One without a sum was labelled
+    by another tool."""
     sums = [section for section in module.sections if section.name == SUM]
     return any(module.data[section.start : section.end] != sum_section(module) for section in sums)
 
 
 def refuse_changed(module: Module) -> None:
     if is_changed(module):
-        raise Bad(f"{module.name}: its code isn't what its labels were made for: another tool has changed it since, so label what it makes "
+        raise Bad(f"{module.name}: its code isn't what its labels were made for: "
+                  "another tool has changed it since, so label what it makes "
                   "(blade-label --replace)")
 
 
@@ -83,7 +87,8 @@ def is_labelled(module: Module) -> bool:
 
 def without_labels(module: Module) -> bytes:
     """The bytes of the module without labels and what speaks of them."""
-    kept = [module.data[section.start : section.end] for section in module.sections if section.name not in (NAME, SUM, UNITS)]
+    kept = [module.data[section.start : section.end] for section in module.sections
+            if section.name not in (NAME, SUM, UNITS)]
     return module.data[:8] + b"".join(kept)
 
 
@@ -110,7 +115,8 @@ def number_of(module: Module, what: str, word: str) -> int:
     """The index that a word spells, or that a name has."""
     if word.isascii() and word.isdigit():
         return int(word)
-    named = {"function": (module.names, FUNCTION), "global": (module.global_names, GLOBAL), "memory": ({}, MEMORY)}
+    named = {"function": (module.names, FUNCTION), "global": (module.global_names, GLOBAL),
+             "memory": ({}, MEMORY)}
     if what not in named:
         raise Bad(f"no number: {word}")
     names, sort = named[what]
@@ -124,7 +130,8 @@ def number_of(module: Module, what: str, word: str) -> int:
 def counts_of(module: Module, kind: str, numbers: Sequence[int]) -> List[Tuple[int, int]]:
     """Of each number of an entry the least one that it may be, and the one behind the last."""
     first = KINDS[kind].names[0]
-    sort, count = {"function": (FUNCTION, len(module.functions)), "global": (GLOBAL, len(module.globals)), "memory": (MEMORY, module.memories)}[first]
+    sort, count = {"function": (FUNCTION, len(module.functions)), "global": (GLOBAL, len(module.globals)),
+                   "memory": (MEMORY, module.memories)}[first]
     ranges = [(len(module.imported(sort)), count)]
     if first == "function" and numbers[0] < count:
         listed = module.type_of(numbers[0])
@@ -186,7 +193,8 @@ def listing(module: Module) -> List[str]:
     lines = []
     for index in range(len(module.imported(FUNCTION)), len(module.functions)):
         kind = module.type_of(index)
-        lines.append(f"function {index} {module.function_name(index)}: parameters {len(kind.params)}, results {len(kind.results)}")
+        lines.append(f"function {index} {module.function_name(index)}: parameters {len(kind.params)}, "
+                     f"results {len(kind.results)}")
     for index in range(len(module.imported(GLOBAL)), len(module.globals)):
         lines.append(f"global {index} {module.global_names.get(index, '')}".rstrip())
     lines += [f"memory {index}" for index in range(len(module.imported(MEMORY)), module.memories)]

@@ -17,8 +17,8 @@ BITS = 1_024  # of a mark, for bytes
 
 class Meeting(Recorded):
     """A mark of a value is a number: a bit for each byte that may change, and above these one for each cause
-    through whose sites it came since it was loaded. A cause's bit stands with the bits of bytes alone. If more
-    bytes may change than there are bits, a bit is that of several bytes in a row."""
+    through whose sites it came since it was loaded. A cause's bit stands with the bits of bytes alone. If
+    more bytes may change than there are bits, a bit is that of several bytes in a row."""
 
     def __init__(self, image: Image, function: int, secret: Secret,
                  causes: Sequence[Sequence[Origin]] = ()) -> None:

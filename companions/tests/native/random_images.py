@@ -200,4 +200,5 @@ def random_start(seed: int, function: Function) -> str:
     """A start file of a function: edges, and some bytes."""
     random_ = random.Random(f"start {seed}")
     lines = [f"arg {value(random_, kind)}" for kind in function.parameters]
-    return "\n".join([*lines, f"memory 0 16 {bytes(random_.getrandbits(8) for _ in range(512)).hex()}"]) + "\n"
+    return ("\n".join([*lines, f"memory 0 16 {bytes(random_.getrandbits(8) for _ in range(512)).hex()}"])
+            + "\n")

@@ -114,7 +114,8 @@ class Objects(unittest.TestCase):
             "a table",
             edit=self.edited(
                 r"v5 = popcnt32\(v5\);",
-                "static const uint8_t bits[16] = {0, 1, 1, 2, 1, 2, 2, 3, 1, 2, 2, 3, 2, 3, 3, 4}; v5 = bits[v5 & 15];",
+                "static const uint8_t bits[16] = {0, 1, 1, 2, 1, 2, 2, 3, 1, 2, 2, 3, 2, 3, 3, 4}; "
+                "v5 = bits[v5 & 15];",
             ),
         )
 

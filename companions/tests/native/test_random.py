@@ -77,8 +77,8 @@ class Random(unittest.TestCase):
             ends = list(pool.map(run, range(SEEDS)))
         self.assertEqual([seed for seed, (native, expected) in enumerate(ends) if native != expected], [])
         print(
-            f" {len(ends)} runs, {len({expected.splitlines()[0] for _, expected in ends})} different outcomes",
-            file=sys.stderr,
+            f" {len(ends)} runs, {len({expected.splitlines()[0] for _, expected in ends})} different "
+            "outcomes", file=sys.stderr,
         )
 
     def test_modules_that_blade_makes(self):

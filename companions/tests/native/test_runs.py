@@ -258,7 +258,8 @@ class Runs(unittest.TestCase):
             file.write(translation.header)
         with open(f"{self.folder}/user.cc", "w", encoding="ascii") as file:
             file.write(
-                '#include "tried.h"\nint main() { uint32_t r; tried *t = tried_new(); tried_end e = tried_f0(t, 1, &r); tried_free(t); return e; }\n'
+                '#include "tried.h"\nint main() { uint32_t r; tried *t = tried_new(); '
+                'tried_end e = tried_f0(t, 1, &r); tried_free(t); return e; }\n'
             )
         subprocess.run(
             [
