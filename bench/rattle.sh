@@ -1,5 +1,6 @@
+# shellcheck shell=bash
 # For benches of libraries, which source it: makes a program over copies of crates, in a folder of its own,
-# and proves and builds it as any other. shellcheck shell=bash
+# and proves and builds it as any other.
 top=$(cd "$(dirname "${BASH_SOURCE[0]}")/.." && pwd)
 work=$(mktemp -d)
 trap 'rm -rf "$work"' EXIT
@@ -13,7 +14,9 @@ copy_crates() {
     for crate in "$@"; do
         mkdir "$work/crates/$crate"
         for part in src specs proofs out; do
-            if [ -d "$top/crates/$crate/$part" ]; then cp -r "$top/crates/$crate/$part" "$work/crates/$crate"; fi
+            if [ -d "$top/crates/$crate/$part" ]; then
+                cp -r "$top/crates/$crate/$part" "$work/crates/$crate"
+            fi
         done
         grep "^$crate:" "$top/crates.txt" >> "$work/crates.txt"
     done
@@ -28,8 +31,8 @@ copy_parts() {
     : > "$measure/specs/Lib.antt"
 }
 
-# Builds programs/NAME.rt.txt as out/measure of the folder that is the current one then: build NAME CRATE.., the
-# crates that it names.
+# Builds programs/NAME.rt.txt as out/measure of the folder that is the current one then: build NAME CRATE..,
+# the crates that it names.
 build() {
     local name=$1
     shift

@@ -51,8 +51,10 @@ def x(text: str) -> bytes:
 CASES: Dict[str, Case] = {
     "chacha20": Case("chacha20", "chacha20", [AT, 0, 0x4A000000, 0, 1, AT + 64, 114],
                      [(0, bytes(range(32))), (64, SUNSCREEN)], 64, x(
-        "6e2e359a2568f98041ba0728dd0d6981e97e7aec1d4360c20a27afccfd9fae0bf91b65c5524733ab8f593dabcd62b3571639d624e65152ab8f530c359f0861d8"
-        "07ca0dbf500d6a6156a38e088a22b65e52bc514d16ccf806818ce91ab77937365af90bbf74a35be6b40b8eedf2785e42874d"), "RFC 8439, 2.4.2"),
+        "6e2e359a2568f98041ba0728dd0d6981e97e7aec1d4360c20a27afccfd9fae0b"
+        "f91b65c5524733ab8f593dabcd62b3571639d624e65152ab8f530c359f0861d8"
+        "07ca0dbf500d6a6156a38e088a22b65e52bc514d16ccf806818ce91ab7793736"
+        "5af90bbf74a35be6b40b8eedf2785e42874d"), "RFC 8439, 2.4.2"),
     "poly1305": Case("poly1305", "poly1305", [AT + 512, AT, AT + 64, 34], [
         (0, x("85d6be7857556d337f4452fe42d506a80103808afb0db2fd4abff6af4149f51b")),
         (64, b"Cryptographic Forum Research Group")],

@@ -37,9 +37,8 @@ LOADS = {0x28: 4, 0x29: 8, 0x2C: 1, 0x2D: 1, 0x2E: 2, 0x2F: 2, 0x30: 1, 0x31: 1,
          0x35: 4}
 STORES = {0x36: 4, 0x37: 8, 0x3A: 1, 0x3B: 2, 0x3C: 1, 0x3D: 2, 0x3E: 4}    # how many bytes each accesses
 BYTES = {"version": (1, 2), "type": (0x7F, I64), "label": (0, 1), "demanded": (0, 1), "code": FIELDS,
-         "spelling": (VARIABLE, CONSTANT),
-         "mark": (*range(7), *range(8, 15)), "operator": OPERATORS, "load": LOADS, "store": STORES,
-         "kind": range(8)}
+         "spelling": (VARIABLE, CONSTANT), "mark": (*range(7), *range(8, 15)), "operator": OPERATORS,
+         "load": LOADS, "store": STORES, "kind": range(8)}
 
 Operand = namedtuple("Operand", "spelling number")
 Global = namedtuple("Global", "type secret value")
@@ -149,13 +148,15 @@ class Function:
 
 class Command:
     """A command: `code` says which of the fields it has, the others are 0."""
-    __slots__ = "code owner mark operator width memory variable offset function index kind operands targets".split()
+    __slots__ = ("code", "owner", "mark", "operator", "width", "memory", "variable", "offset", "function",
+                 "index", "kind", "operands", "targets")
 
     def __init__(self, image, owner):
         """Reads one of a function. A field is an attribute, but for the operands and targets, and a width for
         load or store."""
         self.code, self.owner, self.operands, self.targets = image.field("code"), owner, [], []
-        self.mark = self.operator = self.width = self.memory = self.variable = self.offset = self.function = self.index = 0
+        self.mark = self.operator = self.width = self.memory = 0
+        self.variable = self.offset = self.function = self.index = 0
         for name in FIELDS[self.code].split():
             if name == "operands":
                 self.operands = image.fields("operand " * OPERATORS[self.operator])
@@ -181,8 +182,8 @@ class Command:
 
     def sinks(self):
         """The variables that its sinks read."""
-        operands = self.operands[:{SET: 2 * (self.operator in QUOTIENTS), TEST: 1, LOAD: 1,
-                                   STORE: 1}.get(self.code, 0)]
+        counts = {SET: 2 * (self.operator in QUOTIENTS), TEST: 1, LOAD: 1, STORE: 1}
+        operands = self.operands[:counts.get(self.code, 0)]
         return [number for spelling, number in operands if spelling == VARIABLE]
 
     def is_set(self, operator, *operands):
@@ -288,13 +289,13 @@ class Rules:
     def rule_3(self):
         """Exports."""
         exports, functions = self.program.exports, len(self.program.functions)
-        return len({name for name, _ in exports}) == len(exports) and all(number < functions
-                                                                          for _, number in exports)
+        names = {name for name, _ in exports}
+        return len(names) == len(exports) and all(number < functions for _, number in exports)
 
     def rule_9(self):
         """Demands and weights."""
-        program, demands, sites = self.program, self.program.demands, [position
-                                                                       for position, _ in self.program.sites]
+        program, demands = self.program, self.program.demands
+        sites = [position for position, _ in program.sites]
         return (all(former < demand for former, demand in zip(demands, demands[1:]))
                 and all(self.may_demand(*demand) for demand in demands)
                 and program.weights.keys() <= set(sites) and 0 not in program.weights.values()
@@ -406,8 +407,8 @@ def fits(value, shape):
     """Whether a value has a shape: an object of just these keys, an array of such items, or a number of so
     many bits."""
     if type(shape) is dict:
-        return type(value) is dict and value.keys() == shape.keys() and all(fits(value[key], shape[key])
-                                                                            for key in shape)
+        return (type(value) is dict and value.keys() == shape.keys()
+                and all(fits(value[key], shape[key]) for key in shape))
     if type(shape) is list:
         return type(value) is list and all(fits(item, shape[0]) for item in value)
     return type(value) is int and value < 1 << shape
@@ -510,8 +511,8 @@ def describe(program):
 
 def verify(program, paths, weight):
     """Prints the verdicts; gives the status."""
-    broken, sink, constant_time = broken_rule(program, paths,
-                                              weight), unstable(program), is_constant_time(program)
+    broken, sink = broken_rule(program, paths, weight), unstable(program)
+    constant_time = is_constant_time(program)
     print("certificate yes" if broken is None else "certificate no %d %d" % broken)
     print("stable yes" if sink is None else "stable no %d" % sink)
     print("constant-time", "yes" if constant_time else "no")

@@ -228,7 +228,8 @@ def definition(name, program):
                                   for first in program.globals])
     lines += items('memories = ', [f'(record {{ pages = {pages}; reserve = {reserve}; label = label.Public; '
                                    f'rows = [] }})' for pages, reserve in program.memories])
-    lines += items('functions = ', [f'(record {{ params = {i32}; results = (value.I32 ∷ []); vars = {count}; '
+    results = '(value.I32 ∷ [])'
+    lines += items('functions = ', [f'(record {{ params = {i32}; results = {results}; vars = {count}; '
                                     f'length = {length} }})'
                                     for count, length in program.functions])
     lines += items('exports = ', [f'(record {{ name = {bytes_of(export)}; function = {function} }})'
@@ -243,7 +244,8 @@ def definition(name, program):
     return lines + ['}', '']
 
 
-HEAD = """-- Two small programs and the one that they are joined to, as an independent program makes it (`oracles/example_interface.py`).
+HEAD = """-- Two small programs and the one that they are joined to, as an independent program makes it \
+(`oracles/example_interface.py`).
 use Rattle.std.specs.Prelude.{[], ◌∷◌, true, false}
 use Rattle.bl_base.specs.declared.names.Flow.TheVariants as flow
 use Rattle.bl_base.specs.declared.names.Label.TheVariants as label
@@ -251,7 +253,8 @@ use Rattle.bl_base.specs.declared.names.ValueType.TheVariants as value
 use Rattle.bl_base.specs.declared.trap.Trap.TheVariants as trap
 use Rattle.bl_ops.specs.declared.access.AccessKind.TheVariants as kind
 use Rattle.bl_ops.specs.declared.op.Op.TheVariants as op
-use Rattle.bl_program.specs.declared.command.Command.TheVariants.{Set, Load, Test, Jump, Arg, Call, Out, Ret, Trap}
+use Rattle.bl_program.specs.declared.command.Command.TheVariants.{Set, Load, Test, Jump, \
+Arg, Call, Out, Ret, Trap}
 use Rattle.bl_program.specs.declared.command.Operand.TheVariants.{Var, Const}
 use Rattle.bl_program.specs.declared.definitions.Demand.TheVariants as demand
 use Rattle.bl_program.specs.declared.definitions.ProgramParts.{ProgramParts as Program}

@@ -55,7 +55,9 @@ image("ADD_ONE_IMAGE", [0, 0, 1, 1, 0x7F, 0, 1, 0x7F, 5, 6, 1, 7] + list(b"inc/i
 
 # v0 is the global, v1 the memory's size, v2 and v3 the parameters, v4 the result, v5 the other local.
 ROW = [1, 0, 0, 0, 2, 0, 0, 0, 3, 0, 0, 0, 0, 0, 0, 0]
-image("SUM_IMAGE", [1, 0x7F, 0] + list(spell.leb(66560)) + [1, 2, 0x80, 2, 0, 1, 64] + ROW + [1, 2, 0x7F, 0, 0x7F, 0, 1, 0x7F, 18, 30, 1, 5] + list(b"m/sum") + [0], """
+HEAD = [1, 0x7F, 0] + list(spell.leb(66560)) + [1, 2, 0x80, 2, 0, 1, 64] + ROW
+FUNCTION = [1, 2, 0x7F, 0, 0x7F, 0, 1, 0x7F, 18, 30, 1, 5] + list(b"m/sum") + [0]
+image("SUM_IMAGE", HEAD + FUNCTION, """
 7 set v5 move 0
 8 jump 9
 9 jump 10

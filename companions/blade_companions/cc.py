@@ -50,7 +50,7 @@ from .verdict.flow import find
 from .witnesses.hunting import after_no, summary
 from .formats.image import read_image
 from .formats.labels import Entry, entries_of
-from .c.lines import Lines, chosen
+from .c.lines import Line, Lines, chosen
 from .formats.lowering import LinkedFunction, lower
 from .formats.memories import pages_of, with_pages
 from .c.paths import shown
@@ -249,7 +249,8 @@ class Driver:
         """The words for harden, of runs from the start files."""
         if not self.asked.counts:
             return []
-        image, total = f"{self.folder}/build/{self.module}.lowered.img", f"{self.folder}/build/{self.module}.counts"
+        base = f"{self.folder}/build/{self.module}"
+        image, total = f"{base}.lowered.img", f"{base}.counts"
         done = self.blade("lower", image, *modules)
         if done.status:
             raise Stop(REFUSED, *self.refused(done, modules[-1]))
@@ -393,7 +394,7 @@ def summed(texts: Sequence[str]) -> str:
                      + [f"site {position} {total[position]}" for position in sorted(total)]) + "\n"
 
 
-def line_of(module: Module, place: int):
+def line_of(module: Module, place: int) -> Line:
     """The line of C of a place in a module's file."""
     lines = Lines([])
     if lines.tool and module.has_lines:

@@ -26,7 +26,7 @@ It ends with 0; 1 where the labels aren't right, and nothing is written; 2 for w
 for files that it can't read or write."""
 import argparse
 import sys
-from typing import Sequence
+from typing import List, Optional, Sequence, Tuple
 
 from .ending import ended
 from .formats.labels import entries_of, labelled, listing, refuse_changed, without_labels
@@ -34,7 +34,7 @@ from .formats.memories import pages_of, with_pages
 from .formats.reading import Bad
 from .c.callers import called_in
 from .c.declarations import NOTHING, with_source
-from .formats.module import module_of, read_module
+from .formats.module import Module, module_of, read_module
 from .printing import say
 from .writing import write_file
 
@@ -44,7 +44,7 @@ NOTE = ("blade-label: note: a parameter's label holds for calls from outside: "
         "module; blade-cc keeps it from that")
 
 
-def words_of(words):
+def words_of(words: Sequence[str]) -> argparse.Namespace:
     parser = argparse.ArgumentParser(prog="blade-label", usage="see the head of this file, "
                                      "and docs/GUIDE.md, section 2", add_help=False)
     parser.add_argument("files", nargs="*")
@@ -56,7 +56,7 @@ def words_of(words):
     return parser.parse_intermixed_args(words)
 
 
-def made_of(asked, module):
+def made_of(asked: argparse.Namespace, module: Module) -> Tuple[Optional[bytes], List[str], List[str]]:
     """The labelled module, and what is to be told: errors, and warnings."""
     kinds = asked.files[2:]
     if asked.pages_of:
@@ -75,7 +75,7 @@ def made_of(asked, module):
         return None, [f"blade-label: {bad}"], []
 
 
-def called_inside(module, meant):
+def called_inside(module: Module, meant: Sequence[str]) -> List[str]:
     """Functions with a secret parameter that the module calls itself: what it gives them can't be told
     without an image of it."""
     calls = called_in(module)
@@ -89,8 +89,8 @@ def called_inside(module, meant):
             and str(one) not in meant]
 
 
-def run(words):
-    if words in (["--help"], ["-h"]):
+def run(words: Sequence[str]) -> int:
+    if list(words) in (["--help"], ["-h"]):
         print(__doc__)
         return DONE
     asked = words_of(words)

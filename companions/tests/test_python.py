@@ -10,9 +10,10 @@ from typing import Iterator, List
 TOP = os.path.dirname(os.path.dirname(os.path.dirname(os.path.realpath(__file__))))
 FOLDERS = ("companions", "tools", "bench", "oracles", "formats", "examples/many")
 # Names of the standard library since 3.9: attributes and functions, modules, and names that modules give.
-ATTRIBUTES = frozenset("""removeprefix removesuffix waitstatus_to_exitcode randbytes pairwise batched is_relative_to with_stem hardlink_to bit_count lcm nextafter
-    ulp sumprod cbrt exp2 pidfd_open pidfd_send_signal unparse to_thread TaskGroup aclosing stdlib_module_names orig_argv
-    getencoding file_digest assertNoLogs addModuleCleanup enterContext enterClassContext""".split())
+ATTRIBUTES = frozenset("""removeprefix removesuffix waitstatus_to_exitcode randbytes pairwise batched
+    is_relative_to with_stem hardlink_to bit_count lcm nextafter ulp sumprod cbrt exp2 pidfd_open
+    pidfd_send_signal unparse to_thread TaskGroup aclosing stdlib_module_names orig_argv getencoding
+    file_digest assertNoLogs addModuleCleanup enterContext enterClassContext""".split())
 MODULES = frozenset("graphlib zoneinfo tomllib".split())
 IMPORTED = {"functools": {"cache"}, "itertools": {"pairwise", "batched"}, "contextlib": {"aclosing", "chdir"},
             "math": {"lcm", "nextafter", "ulp", "cbrt", "exp2"},

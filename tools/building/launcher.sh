@@ -1,29 +1,40 @@
 # shellcheck shell=bash
 # shellcheck disable=SC2154  # the launchers set here and name
-# What ./blade and ./blade-unproved share: they source it. Standard output and the status are the program's; what is said here goes to
-# standard error.
+# What ./blade and ./blade-unproved share: they source it. Standard output and the status are the program's;
+# what is said here goes to standard error.
 
 # The commands, as --help lists them.
 print_help() {
     cat << COMMANDS
-blade $(< "$here/VERSION"): hardens WebAssembly modules against speculative leaks, and says whether the result is constant-time
-  blade harden IMAGE CERT MODULE... [--counts FILE]          writes the hardened image and its certificate, and prints the report
+blade $(< "$here/VERSION"): hardens WebAssembly modules against speculative leaks, and says whether the result
+is constant-time
+  blade harden IMAGE CERT MODULE... [--counts FILE]          writes the hardened image and its certificate,
+                                                             and prints the report
   blade lower IMAGE MODULE...                                writes the image without protects
   blade interp EXPORT START MODULE... [--steps N]            runs a function of the modules
-  blade run IMAGE EXPORT START [--steps N] [--counts FILE]   runs a function of an image, and writes how often its sites were executed
-  blade spec IMAGE EXPORT TRACE START                        takes a trace's directives on the machine that speculates
-  blade twin IMAGE EXPORT TRACE START START2                 does so from two start files, and says whether they are observed alike
-  blade forward IMAGE EXPORT TRACE START START2              does so where loads take values of stores, and says whether the program is safe there
-  blade predict IMAGE EXPORT TRACE START [--steps N]         drives the machine by a predictor and a cache, and writes the trace that it chose
-  blade part ROLE IMAGE IFACE MODULE...                      hardens modules on one side of an interface, as client or library
-  blade join IMAGE IFACE CLIENT LIBRARY                      joins a client and a library that were hardened apart
-  blade verify IMAGE CERT                                    checks a certificate against an image, and the image's protects and labels
+  blade run IMAGE EXPORT START [--steps N] [--counts FILE]   runs a function of an image, and writes how
+                                                             often its sites were executed
+  blade spec IMAGE EXPORT TRACE START                        takes a trace's directives on the machine that
+                                                             speculates
+  blade twin IMAGE EXPORT TRACE START START2                 does so from two start files, and says whether
+                                                             they are observed alike
+  blade forward IMAGE EXPORT TRACE START START2              does so where loads take values of stores, and
+                                                             says whether the program is safe there
+  blade predict IMAGE EXPORT TRACE START [--steps N]         drives the machine by a predictor and a cache,
+                                                             and writes the trace that it chose
+  blade part ROLE IMAGE IFACE MODULE...                      hardens modules on one side of an interface, as
+                                                             client or library
+  blade join IMAGE IFACE CLIENT LIBRARY                      joins a client and a library that were hardened
+                                                             apart
+  blade verify IMAGE CERT                                    checks a certificate against an image, and the
+                                                             image's protects and labels
   blade gen SEED SIZE                                        makes a module by a number, and hardens it
 Words, files, texts and exit statuses: $here/docs/CLI.md
 COMMANDS
 }
 
-# The launcher's own answers: --help and --version, if nothing else is given, on standard output; whether it was one of them.
+# The launcher's own answers: --help and --version, if nothing else is given, on standard output; whether it
+# was one of them.
 answer() {
     case $#${1-} in
         1--help | 1-h) print_help ;;
@@ -106,8 +117,8 @@ explain_call() {
     fi
 }
 
-# Warns where a file that harden, lower, part, join, predict or run writes is another of its files: the program compares names as words, and the
-# last one written stays. Links and other paths of one file count.
+# Warns where a file that harden, lower, part, join, predict or run writes is another of its files: the
+# program compares names as words, and the last one written stays. Links and other paths of one file count.
 warn() {
     local command=${1-} written=1 words=() counts=() files=() kinds=() paths=() file i j
     case $command in harden | lower | part | join | predict | run) shift ;; *) return 0 ;; esac
@@ -133,7 +144,8 @@ warn() {
             ;;
         run)
             [ ${#counts[@]} -gt 0 ] || return 0
-            files=("${counts[@]}") kinds=(FILE IMAGE START) words=("${words[@]:0:1}" "${words[@]:2:1}") counts=()
+            files=("${counts[@]}") kinds=(FILE IMAGE START)
+            words=("${words[@]:0:1}" "${words[@]:2:1}") counts=()
             ;;
     esac
     files+=("${words[@]}")
@@ -150,27 +162,37 @@ warn() {
     done
 }
 
-# Warns of a module whose source declares secrets, by the macros of blade.h, which nobody has turned into labels: they would be public.
+# Warns of a module whose source declares secrets, by the macros of blade.h, which nobody has turned into
+# labels: they would be public.
 warn_unlabelled() {
     local file
     case ${1-} in harden | lower | part) ;; *) return 0 ;; esac
     command -v grep > /dev/null || return 0
     for file in "${@:2}"; do
-        if [ -f "$file" ] && grep -qaF $'\rblade.secrets' "$file" && ! grep -qaF $'\fblade.labels' "$file"; then
-            echo "blade: warning: $file: what its source declares secret isn't in its labels, and counts as public: blade-label puts it there" >&2
+        if [ -f "$file" ] && grep -qaF $'\rblade.secrets' "$file" &&
+            ! grep -qaF $'\fblade.labels' "$file"; then
+            echo "blade: warning: $file: what its source declares secret isn't in its labels," \
+                "and counts as public: blade-label puts it there" >&2
         fi
         warn_changed "$file"
     done
 }
 
-# Warns of a module whose code isn't what its labels were made for: they would speak of other functions and parameters.
+# Warns of a module whose code isn't what its labels were made for: they would speak of other functions and
+# parameters.
 warn_changed() {
     local label=$here/companions/blade-label
-    if [ ! -f "$1" ] || [ ! -x "$label" ] || ! grep -qaF $'\tblade.sum' "$1" || ! command -v python3 > /dev/null; then return 0; fi
-    "$label" "$1" --check 2> /dev/null || echo "blade: warning: $1: its code was changed after it was labelled, so its labels may speak of other functions: blade-label it again" >&2
+    if [ ! -f "$1" ] || [ ! -x "$label" ] || ! grep -qaF $'\tblade.sum' "$1" ||
+        ! command -v python3 > /dev/null; then
+        return 0
+    fi
+    "$label" "$1" --check 2> /dev/null ||
+        echo "blade: warning: $1: its code was changed after it was labelled, so its labels may speak of" \
+            "other functions: blade-label it again" >&2
 }
 
-# Whether a program isn't there, or is older than a file or folder that it may be made from, or this can't be told.
+# Whether a program isn't there, or is older than a file or folder that it may be made from, or this can't be
+# told.
 is_old() {
     local found
     [ -x "$1" ] && [ ! "$here/crates.txt" -nt "$1" ] || return 0
@@ -179,8 +201,9 @@ is_old() {
     [ -n "$found" ]
 }
 
-# The sum over all that the program is made from: its crates' lines in crates.txt, and their sources, definitions and proofs. It needs
-# coreutils and findutils only. Where a tool is missing the sum is another one.
+# The sum over all that the program is made from: its crates' lines in crates.txt, and their sources,
+# definitions and proofs. It needs coreutils and findutils only. Where a tool is missing the sum is another
+# one.
 source_stamp() {
     local line
     (
@@ -189,7 +212,8 @@ source_stamp() {
         while read -r line; do
             case $line in '' | '#'* | tests_*) ;; *) printf '%s\n' "$line" ;; esac
         done < crates.txt | sort
-        find crates -mindepth 2 \( -name out -o -path 'crates/tests_*' \) -prune -o -type f \( -name '*.rt' -o -name '*.antt' \) -print0 |
+        find crates -mindepth 2 \( -name out -o -path 'crates/tests_*' \) -prune \
+            -o -type f \( -name '*.rt' -o -name '*.antt' \) -print0 |
             sort -z | xargs -0 sha256sum
     ) | sha256sum | { read -r line _ && echo "$line"; }
 }
@@ -203,17 +227,20 @@ recorded() {
     return 1
 }
 
-# Makes the folder of the user's own in which the program of dist/ is unpacked, and prints it. Nobody else may write or read there.
+# Makes the folder of the user's own in which the program of dist/ is unpacked, and prints it. Nobody else may
+# write or read there.
 unpack_folder() {
     local base=${XDG_CACHE_HOME:-${HOME:+$HOME/.cache}} folder
     [ -n "$base" ] || return 1
     folder=$base/blade/dist
     (umask 077 && mkdir -p "$folder") || return 1
-    [ -d "$folder" ] && [ ! -L "$folder" ] && [ -O "$folder" ] && [ "$(stat -c %a "$folder")" = 700 ] || return 1
+    [ -d "$folder" ] && [ ! -L "$folder" ] && [ -O "$folder" ] && [ "$(stat -c %a "$folder")" = 700 ] ||
+        return 1
     echo "$folder"
 }
 
-# Unpacks the program of dist/ into a folder, where it isn't there yet or has another sum, and tries whether it runs.
+# Unpacks the program of dist/ into a folder, where it isn't there yet or has another sum, and tries whether
+# it runs.
 unpack() {
     local folder=$1 sum=$2 made status=0
     if [ -f "$folder/$sum" ] && [ -O "$folder/$sum" ] && is_sum "$folder/$sum" "$sum"; then return; fi
@@ -232,17 +259,20 @@ is_sum() {
     sum=$(sha256sum < "$1") && [ "${sum%% *}" = "$2" ]
 }
 
-# Sets `unpacked` to the program of dist/, if the record's stamp is the stamp of the sources at hand; fails if it isn't, or if any tool or test
-# fails. A file in the cache has the time at which the stamp was last found equal: it is compared again only when a source, or dist/, changed since.
+# Sets `unpacked` to the program of dist/, if the record's stamp is the stamp of the sources at hand; fails if
+# it isn't, or if any tool or test fails. A file in the cache has the time at which the stamp was last found
+# equal: it is compared again only when a source, or dist/, changed since.
 find_unpacked() {
     local sum stamp folder seen found made is_first=
-    [ -f "$here/dist/RECORD" ] && [ -f "$here/dist/blade.gz" ] && [ "$(uname -sm)" = 'Linux x86_64' ] || return 1
+    [ -f "$here/dist/RECORD" ] && [ -f "$here/dist/blade.gz" ] && [ "$(uname -sm)" = 'Linux x86_64' ] ||
+        return 1
     sum=$(recorded sha256) && stamp=$(recorded stamp) && [[ $sum$stamp =~ ^[0-9a-f]{128}$ ]] || return 1
     folder=$(unpack_folder) || return 1
     seen=$(printf %s "$here" | sha256sum) && seen=$folder/of-${seen%% *}
     unpacked=$folder/$sum
     if [ -f "$seen" ] && [ "$(< "$seen")" = "$sum $stamp" ] && [ -x "$unpacked" ] && [ -O "$unpacked" ]; then
-        found=$(find "$here/crates.txt" "$here/dist" "$here/crates" -name out -prune -o -path '*/crates/tests_*' -prune -o -cnewer "$seen" -print -quit) || return 1
+        found=$(find "$here/crates.txt" "$here/dist" "$here/crates" -name out -prune \
+            -o -path '*/crates/tests_*' -prune -o -cnewer "$seen" -print -quit) || return 1
         [ -n "$found" ] || return 0
     fi
     [ -f "$seen" ] || is_first=1
@@ -251,7 +281,9 @@ find_unpacked() {
         rm -f "$made"
         return 1
     fi
-    [ -z "$is_first" ] || echo "blade: the program of dist/, proved and built from these sources; ./blade-prove proves it here" >&2
+    [ -z "$is_first" ] ||
+        echo "blade: the program of dist/, proved and built from these sources;" \
+            "./blade-prove proves it here" >&2
 }
 
 # Builds the program where it is old, then runs the words given, which begin with what is to run.
@@ -261,7 +293,8 @@ build_and_run() {
     local why="it isn't built here"
     [ ! -f "$here/dist/RECORD" ] || why="$why, dist/ doesn't hold the program of these sources"
     if ! command -v rt > /dev/null; then
-        echo "$name: $why, and the Rattle kit that builds it is missing (there is no rt); $here/README.md says which kit" >&2
+        echo "$name: $why, and the Rattle kit that builds it is missing (there is no rt);" \
+            "$here/README.md says which kit" >&2
         exit 125
     fi
     if ! command -v python3 > /dev/null; then

@@ -83,7 +83,8 @@ TABLES = """(module
   (elem (i32.const 1) $add $put $own $get $put)
   (func $own (param i32) (result i32) local.get 0 i32.const 3 i32.mul)
   (func (export "one") (param i32 i32) (result i32) local.get 1 local.get 0 call_indirect (type $one))
-  (func (export "two") (param i32 i32 i32) (result i32) local.get 1 local.get 2 local.get 0 call_indirect (type $two)))"""
+  (func (export "two") (param i32 i32 i32) (result i32) local.get 1 local.get 2 local.get 0 call_indirect
+  (type $two)))"""
 TABLED = """(module (memory 1)
   (func (export "add") (param i32 i32) (result i32) local.get 0 local.get 1 i32.add)
   (func (export "put") (param i32) (result i32) i32.const 32 local.get 0 i32.store i32.const 32 i32.load8_u)
@@ -94,22 +95,29 @@ RESULTS = """(module
   (type $three (func (param i32 i64) (result i64 i32 i64)))
   (table 1 funcref) (elem (i32.const 0) $three)
   (func (export "turned") (param i32 i64) (result i32 i64 i64) (local i64 i32 i64)
-    local.get 0 local.get 1 call $three local.set 4 local.set 3 local.set 2 local.get 3 local.get 4 local.get 2)
+    local.get 0 local.get 1 call $three local.set 4 local.set 3 local.set 2 local.get 3 local.get 4
+    local.get 2)
   (func (export "as") (param i32 i64) (result i64 i32 i64)
-    local.get 0 local.get 1 block (param i32 i64) (result i64 i32 i64) i32.const 0 call_indirect (type $three) end)
+    local.get 0 local.get 1 block (param i32 i64) (result i64 i32 i64) i32.const 0 call_indirect
+    (type $three) end)
   (func (export "none") (param i32) (result i64 i32 i64)
-    i64.const 6 i32.const 2 i64.const 0 local.get 0 i32.eqz br_if 0 drop drop drop local.get 0 i64.const 5 call $three))"""
+    i64.const 6 i32.const 2 i64.const 0 local.get 0 i32.eqz br_if 0 drop drop drop local.get 0 i64.const 5
+    call $three))"""
 THREE = """(module (func (export "three") (param i32 i64) (result i64 i32 i64)
-  local.get 1 i64.const 1 i64.add local.get 0 i32.const 2 i32.add local.get 1 local.get 0 i64.extend_i32_u i64.mul))"""
+  local.get 1 i64.const 1 i64.add local.get 0 i32.const 2 i32.add local.get 1 local.get 0 i64.extend_i32_u
+  i64.mul))"""
 
 # A library of two modules, each with a memory; a stub with a memory and a global of its own; two clients, the
 # second over the first's memory.
 STATES = {
-    "low": """(module (memory (export "m") 1 3) (data (i32.const 0) "\\01\\02\\03\\04") (global $count (mut i32) (i32.const 0))
-      (func (export "store") (param i32 i32) local.get 0 local.get 1 i32.store global.get $count i32.const 1 i32.add global.set $count)
+    "low": """(module (memory (export "m") 1 3) (data (i32.const 0) "\\01\\02\\03\\04")
+      (global $count (mut i32) (i32.const 0))
+      (func (export "store") (param i32 i32) local.get 0 local.get 1 i32.store global.get $count
+      i32.const 1 i32.add global.set $count)
       (func (export "count") (result i32) global.get $count)
       (func (export "grow") (param i32) (result i32) local.get 0 memory.grow))""",
-    "high": """(module (import "low" "store" (func $store (param i32 i32))) (memory 2) (data (i32.const 16) "\\aa\\bb")
+    "high": """(module (import "low" "store" (func $store (param i32 i32))) (memory 2)
+      (data (i32.const 16) "\\aa\\bb")
       (func (export "copy") (param i32 i32) local.get 0 local.get 1 i32.load call $store)
       (func (export "load") (param i32) (result i32) local.get 0 i32.load)
       (func (export "size") (result i32) memory.size)
@@ -117,20 +125,25 @@ STATES = {
 }
 STATES_STUBS = {
     "low": """(module (memory 1) (global $g (mut i32) (i32.const 9)) (data (i32.const 0) "\\ff")
-      (func (export "store") (param i32 i32) local.get 0 local.get 1 i32.store) (func (export "count") (result i32) global.get $g))""",
-    "high": """(module (func (export "copy") (param i32 i32) unreachable) (func (export "put") (param i32 i32) i32.const 1 drop unreachable)
+      (func (export "store") (param i32 i32) local.get 0 local.get 1 i32.store)
+      (func (export "count") (result i32) global.get $g))""",
+    "high": """(module (func (export "copy") (param i32 i32) unreachable)
+      (func (export "put") (param i32 i32) i32.const 1 drop unreachable)
       (func (export "load") (param i32) (result i32) i32.const 7))""",
 }
 STATES_IFACE = ("function ss - high/copy\nfunction - t low/count\nfunction st - low/store\nfunction st - "
                 "high/put\nfunction s t high/load\n")
 STATES_CLIENTS = {
-    "first": """(module (import "high" "copy" (func $copy (param i32 i32))) (import "low" "count" (func $count (result i32)))
+    "first": """(module (import "high" "copy" (func $copy (param i32 i32)))
+      (import "low" "count" (func $count (result i32)))
       (memory (export "m") 1 2) (global (export "g") (mut i32) (i32.const 40)) (data (i32.const 4) "\\07")
       (func (export "twice") (param i32 i32) (result i32)
         local.get 0 local.get 1 call $copy local.get 0 i32.const 4 i32.add local.get 1 call $copy
         i32.const 64 call $count i32.store i32.const 4 i32.load))""",
-    "second": """(module (import "first" "twice" (func $twice (param i32 i32) (result i32))) (import "first" "m" (memory 1))
-      (import "first" "g" (global $g (mut i32))) (import "high" "put" (func $put (param i32 i32))) (import "high" "load" (func $load (param i32) (result i32)))
+    "second": """(module (import "first" "twice" (func $twice (param i32 i32) (result i32)))
+      (import "first" "m" (memory 1)) (import "first" "g" (global $g (mut i32)))
+      (import "high" "put" (func $put (param i32 i32)))
+      (import "high" "load" (func $load (param i32) (result i32)))
       (import "low" "store" (func $store (param i32 i32)))
       (func (export "all") (param i32) (result i32)
         global.get $g i32.const 2 i32.add global.set $g
@@ -140,7 +153,8 @@ STATES_CLIENTS = {
       (func (export "small") (param i32) (result i32) local.get 0 i32.load8_u))""",
 }
 
-TRAPS = """(module (memory 1) (table 2 funcref) (elem (i32.const 1) $own) (type $none (func)) (type $one (func (param i32)))
+TRAPS = """(module (memory 1) (table 2 funcref) (elem (i32.const 1) $own) (type $none (func))
+  (type $one (func (param i32)))
   (func $own)
   (func $deep call $deep)
   (func (export "trap") (param i32) (result i32)
@@ -164,10 +178,12 @@ KINDS = ["unreachable", "integer divide by zero", "integer overflow", "out of bo
 
 # Each counts down one number by its own calls; the client then calls the library.
 DOWN = """(module (func $down (export "down") (param i32) (result i32)
-  local.get 0 if (result i32) local.get 0 i32.const 1 i32.sub call $down i32.const 1 i32.add else i32.const 0 end))"""
+  local.get 0 if (result i32) local.get 0 i32.const 1 i32.sub call $down i32.const 1 i32.add else
+  i32.const 0 end))"""
 DEPTH = """(module (import "lib" "down" (func $lib (param i32) (result i32)))
   (func $both (export "both") (param i32 i32) (result i32)
-    local.get 0 if (result i32) local.get 0 i32.const 1 i32.sub local.get 1 call $both i32.const 1 i32.add else local.get 1 call $lib end))"""
+    local.get 0 if (result i32) local.get 0 i32.const 1 i32.sub local.get 1 call $both i32.const 1 i32.add
+    else local.get 1 call $lib end))"""
 EXHAUSTED = "trapped call stack exhausted"
 
 # Clients that keep to the interface.

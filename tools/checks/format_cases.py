@@ -188,8 +188,10 @@ CERTIFICATES = [
     (WHOLE.replace('amount":2097153', 'amount":18446744073709551615'), "certificate no 4 11"),
     (WHOLE.replace('amount":2097153', 'amount":2097152'), "certificate no 5 0"),
     (WHOLE.replace('weight":2097153', 'weight":2097152'), "certificate no 5 0"),
-    ('{"paths":[{"amount":2097152,"sink":14,"sites":[11]},{"amount":1,"sink":13,"sites":[11,12]}],"weight":2097153}', "certificate yes"),
-    ('{"paths":[{"amount":2097153,"sink":14,"sites":[11]},{"amount":0,"sink":14,"sites":[11]}],"weight":2097153}', "certificate no 2 1"),
+    ('{"paths":[{"amount":2097152,"sink":14,"sites":[11]},{"amount":1,"sink":13,"sites":[11,12]}],'
+     '"weight":2097153}', "certificate yes"),
+    ('{"paths":[{"amount":2097153,"sink":14,"sites":[11]},{"amount":0,"sink":14,"sites":[11]}],'
+     '"weight":2097153}', "certificate no 2 1"),
 ]
 UNSEEN = {'{"paths":[],"weight":-0}'}  # python3 reads -0 as the integer 0
 

@@ -12,14 +12,17 @@ is, and the locals at the entry of a function, which no load reaches. That they 
 tested by hand, in companions/tests/test_metadata.py."""
 from typing import List, NamedTuple, Tuple
 
-SOURCE = """(module (memory (export "memory") 1 1) (func (export "get") (param i32) (result i32) loop loop loop local.get 0 i32.load return end end end unreachable)
+SOURCE = """(module (memory (export "memory") 1 1)
+  (func (export "get") (param i32) (result i32)
+    loop loop loop local.get 0 i32.load return end end end unreachable)
   (func (export "use") (param i32) local.get 0 call $load drop local.get 0 call $load drop)
   (func $load (param i32) (result i32) loop loop loop local.get 0 i32.load return end end end unreachable))"""
 
 HEAD = ('(import "source" "get" (func $get (param i32) (result i32))) (import "source" "use" '
         '(func $use (param i32)))')
 MERGED = """block (result i32)
-    i32.const 0 call $get local.get 0 br_if 0 drop i32.const 4 call $get local.get 1 br_if 0 drop i32.const 8 call $get
+    i32.const 0 call $get local.get 0 br_if 0 drop i32.const 4 call $get local.get 1 br_if 0 drop
+    i32.const 8 call $get
   end"""
 USED = "i32.load drop"
 

@@ -19,16 +19,19 @@ class Order(NamedTuple):
 # f adds its argument to a number of the library's memory, 5 at first, and gives the sum; g multiplies one, 3
 # at first.
 ADDS = """(module (memory 1 1) (data (i32.const 0) "\\05")
-  (func (export "f") (param i32) (result i32) i32.const 0 i32.const 0 i32.load local.get 0 i32.add i32.store i32.const 0 i32.load))"""
+  (func (export "f") (param i32) (result i32) i32.const 0 i32.const 0 i32.load local.get 0 i32.add
+  i32.store i32.const 0 i32.load))"""
 TIMES = """(module {0} (memory 1 1) (data (i32.const 0) "\\03")
-  (func (export "g") (param i32) (result i32) i32.const 0 i32.const 0 i32.load local.get 0 i32.mul i32.store i32.const 0 i32.load {1}))"""
+  (func (export "g") (param i32) (result i32) i32.const 0 i32.const 0 i32.load local.get 0 i32.mul
+  i32.store i32.const 0 i32.load {1}))"""
 F = '(import "a" "f" (func $f (param i32) (result i32)))'
 # The client keeps f of 7 and g of 11 in its memory, and adds f of 1: 5 + 7 = 12, and 33; or, where g hands 33
 # to f, 12 + 33 = 45.
 CLIENT = f"""(module {F} (import "b" "g" (func $g (param i32) (result i32))) (memory 1 1)
   (func (export "main") (param i32 i32) (result i32)
     i32.const 8 local.get 0 call $f i32.store i32.const 12 local.get 1 call $g i32.store
-    i32.const 8 i32.load i32.const 12 i32.load i32.const 16 i32.shl i32.add i32.const 1 call $f i32.const 24 i32.shl i32.add))"""
+    i32.const 8 i32.load i32.const 12 i32.load i32.const 16 i32.shl i32.add i32.const 1 call $f
+    i32.const 24 i32.shl i32.add))"""
 APART = f"returned i32 {12 + (33 << 16) + (13 << 24)}"
 OVER = f"returned i32 {12 + (45 << 16) + (46 << 24)}"
 # g of `through` hands its argument to f, and f's answer on: 5 + 7 = 12, 12 + 11 = 23.
@@ -36,8 +39,10 @@ THROUGH = f'(module {F} (func (export "g") (param i32) (result i32) local.get 0 
 HANDED = f"returned i32 {12 + (23 << 16) + (24 << 24)}"
 # A client of two libraries over one, each with a 3 of its own: 5 + 3 * 7 = 26 by the first, 26 + 3 * 11 = 59
 # by the other.
-TWO = """(module (import "b" "g" (func $g (param i32) (result i32))) (import "d" "g" (func $h (param i32) (result i32))) (memory 1 1)
-  (func (export "main") (param i32 i32) (result i32) local.get 0 call $g local.get 1 call $h i32.const 16 i32.shl i32.add))"""
+TWO = """(module (import "b" "g" (func $g (param i32) (result i32)))
+  (import "d" "g" (func $h (param i32) (result i32))) (memory 1 1)
+  (func (export "main") (param i32 i32) (result i32) local.get 0 call $g local.get 1 call $h i32.const 16
+  i32.shl i32.add))"""
 BOTH_OVER = f"returned i32 {26 + (59 << 16)}"
 # A stub whose body asks for what a client owes and gives what it is given: its parameter is an address, its
 # result is loaded; within six loops, where a protect weighs most, so that the least protects stand in the

@@ -19,7 +19,8 @@ ALONE = frozenset("-c -S -E -M -MM -fsyntax-only -###".split())  # clang does al
 OTHER_MACHINE = {
     "-mbulk-memory": "operations on whole memories", "-msimd128": "vectors", "-mrelaxed-simd": "vectors",
     "-mreference-types": "references", "-matomics": "threads", "-pthread": "threads",
-    "-mtail-call": "tail calls", "-mexception-handling": "exceptions", "-mnontrapping-fptoint": "floats", "-mmultimemory": "several memories", "-m64": "64-bit addresses"}
+    "-mtail-call": "tail calls", "-mexception-handling": "exceptions", "-mnontrapping-fptoint": "floats",
+    "-mmultimemory": "several memories", "-m64": "64-bit addresses"}
 
 
 class Stop(Exception):

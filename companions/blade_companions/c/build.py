@@ -144,8 +144,9 @@ class Builder:
 
     def lines(self) -> List[str]:
         """The lines of blade.h in all that the linker opened, linked or not."""
-        return [line for one in self.inputs()
-                for line in (lines_of(one, self.runner, self.folder) if one.is_bitcode else lines_in(one.data))]
+        found = [lines_of(one, self.runner, self.folder) if one.is_bitcode else lines_in(one.data)
+                 for one in self.inputs()]
+        return [line for lines in found for line in lines]
 
     def strangers(self, linked: Module, names: Sequence[str], meant: Sequence[str]) -> List[str]:
         """What may be wrong with labels in code that blade-cc didn't compile, or that doesn't know them."""

@@ -6,7 +6,7 @@ from __future__ import annotations
 from collections import defaultdict
 from typing import Dict, Iterable, List, NamedTuple, Sequence, Set, Tuple
 
-from ..formats.image import Command, Image
+from ..formats.image import Command, Image, Operand
 from ..formats.instructions import CALL, CALL_INDIRECT, read_instruction, read_locals
 from ..formats.labels import Entry
 from ..formats.lowering import LinkedFunction
@@ -77,7 +77,7 @@ class Secrets:
             return self.fits(operands[0])
         return any(x in self.secret for x in command.reads)
 
-    def fits(self, operand) -> bool:
+    def fits(self, operand: Operand) -> bool:
         return not operand.is_variable or operand.value in self.secret
 
 

@@ -23,7 +23,9 @@ MASK = re.compile(r"blade_secret_mask_(?:32|64)(?:[._]\d+)?")
 MOST_LINES, MOST_ERRORS = 4096, 50
 # what clang calls the unit in a file that is named by -include: that goes to all units
 INCLUDED = "<built-in>"
-NOTHING = "nothing is declared secret: BLADE_SECRET_PARAM or BLADE_SECRET_MEMORY of blade.h, or words; --unlabelled where that is meant"
+NOTHING = ("nothing is declared secret: BLADE_SECRET_PARAM or BLADE_SECRET_MEMORY of blade.h, or words; "
+           "--unlabelled where that is meant")
+DROPPED = " (nothing uses it, so the linker or clang dropped it; export it, or drop the line)"
 KEEP = "so keep it by __attribute__((noinline)), or declare the caller's parameter"
 
 
@@ -157,16 +159,19 @@ class Resolver:
         """Why a name isn't that of one function."""
         if found:
             places = ", ".join(f"{one.path}:{one.line}" for one in known if one.function in found)
-            return f"{len(found)} functions are called {name}{' (' + places + ')' if places else ''}: give one of them another name"
+            where = f" ({places})" if places else ""
+            return f"{len(found)} functions are called {name}{where}: give one of them another name"
         at = next((one.inlined[0] for one in known if one.inlined), None)
         if at:
-            return f"{name} isn't in the module: clang inlined it, for one at {at.path}:{at.line} in {at.caller}, {KEEP}"
+            return (f"{name} isn't in the module: clang inlined it, "
+                    f"for one at {at.path}:{at.line} in {at.caller}, {KEEP}")
         if known:
             return f"{name} isn't in the module: nothing uses it. Export it, or drop the line"
         if name in variables(self.module):
-            return f"{name} is a variable of C, which stands in memory: BLADE_SECRET_MEMORY declares all of that"
+            return (f"{name} is a variable of C, which stands in memory: "
+                    "BLADE_SECRET_MEMORY declares all of that")
         asked = near(name, [base(told) for told in self.module.names.values()])
-        return f"there is no function {name}{asked or ' (nothing uses it, so the linker or clang dropped it; export it, or drop the line)'}"
+        return f"there is no function {name}{asked or DROPPED}"
 
     def parameter(self, function: int, one: Optional[Subprogram], word: str) -> int:
         """The number of a parameter that C calls so."""

@@ -3,7 +3,7 @@
 from __future__ import annotations
 
 from dataclasses import dataclass, field
-from typing import Dict, List, NamedTuple, Optional, Set, Tuple
+from typing import Any, Dict, List, NamedTuple, Optional, Set, Tuple
 
 from ..formats.reading import Bad, Reader
 from ..formats.module import FUNCTION, Module
@@ -11,8 +11,8 @@ from ..formats.module import FUNCTION, Module
 COMPILE_UNIT, SUBPROGRAM, PARAMETER, INLINED, VARIABLE = 0x11, 0x2E, 0x05, 0x1D, 0x34
 POINTERS, AGGREGATES = frozenset([0x0F, 0x10, 0x42, 0x01]), frozenset([0x13, 0x17, 0x02])
 PASSING = frozenset([0x16, 0x26, 0x35, 0x37, 0x47])
-NAME, LOW_PC, LINKAGE, ORIGIN, SPECIFICATION, LOCATION, LINE, CALL_LINE, CALL_COLUMN, FOLDER, STR_BASE, ADDR_BASE, TYPE = (
-    0x03, 0x11, 0x6E, 0x31, 0x47, 0x02, 0x3B, 0x59, 0x57, 0x1B, 0x72, 0x73, 0x49)
+NAME, LOW_PC, LINKAGE, ORIGIN, SPECIFICATION, LOCATION = 0x03, 0x11, 0x6E, 0x31, 0x47, 0x02
+LINE, CALL_LINE, CALL_COLUMN, FOLDER, STR_BASE, ADDR_BASE, TYPE = 0x3B, 0x59, 0x57, 0x1B, 0x72, 0x73, 0x49
 WANTED = frozenset([NAME, LOW_PC, LINKAGE, ORIGIN, SPECIFICATION, LOCATION, LINE, CALL_LINE, CALL_COLUMN,
                     FOLDER, STR_BASE, ADDR_BASE, TYPE])
 # The most entries, attributes and letters of strings, beside as many as the bytes of the file allow: a small
@@ -209,7 +209,7 @@ class Units:
                 pairs.append((attribute, form, constant))
             found[code] = (tag, nests, pairs)
 
-    def value(self, form: int, constant: int, size: int, unit: int):
+    def value(self, form: int, constant: int, size: int, unit: int) -> Any:
         info = self.info
         if form in STRINGS or form in ADDRESSES:
             number = info.number() if form in (0x1A, 0x1B) else self.fixed(FIXED[form])
@@ -245,7 +245,7 @@ class Units:
         raise Bad(f"DWARF has the form {form:#x}, which isn't read here")
 
 
-def local_of(value) -> Optional[int]:
+def local_of(value: object) -> Optional[int]:
     """The local of a location: DW_OP_WASM_location 0 N as a value; by itself it has the address."""
     if isinstance(value, bytes) and value[:2] == b"\xed\x00":
         reader = Reader(value, 2)

@@ -246,7 +246,8 @@ class Opaque:
         symbol = re.search(r'@(?:"[^"]*"|[-\w.$]+)', self.lines[one.start])[0]
         if self.text.has_plain_pointers:
             return f"ptr {symbol}"
-        return f"i8* bitcast ({one.result} ({', '.join(param.kind for param in one.params)})* {symbol} to i8*)"
+        kinds = ", ".join(param.kind for param in one.params)
+        return f"i8* bitcast ({one.result} ({kinds})* {symbol} to i8*)"
 
     def written(self) -> str:
         return "\n".join(self.lines + record(self.unit)) + "\n"
@@ -270,9 +271,10 @@ def hidden_return(line: str, at: int) -> str:
         return line
     space, kind, value, place = found.groups()
     if kind != "i1":
-        return f'{space}%blade.given{at} = call {kind} asm "", "=r,0"({kind} {value}){place}\n{space}ret {kind} %blade.given{at}{place}'
-    return (f'{space}%blade.wide{at} = zext i1 {value} to i32\n{space}%blade.same{at} = call i32 asm "", '
-            f'"=r,0"(i32 %blade.wide{at}){place}\n'
+        return (f'{space}%blade.given{at} = call {kind} asm "", "=r,0"({kind} {value}){place}\n'
+                f"{space}ret {kind} %blade.given{at}{place}")
+    return (f"{space}%blade.wide{at} = zext i1 {value} to i32\n"
+            f'{space}%blade.same{at} = call i32 asm "", "=r,0"(i32 %blade.wide{at}){place}\n'
             f"{space}%blade.given{at} = trunc i32 %blade.same{at} to i1\n"
             f"{space}ret i1 %blade.given{at}{place}")
 

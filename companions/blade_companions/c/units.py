@@ -229,7 +229,8 @@ class Resolver:
         count = len(self.module.type_of(function).params)
         name = self.module.names.get(function, "")
         if name.startswith("__wrap_") and not label.symbol.startswith("__wrap_"):
-            self.fail(named, f"the linker has {name} called in place of {named.name} (--wrap): label that one")
+            self.fail(named, f"the linker has {name} called in place of {named.name} (--wrap): "
+                      "label that one")
         elif label.number.startswith("!"):
             self.fail(named, label.number[1:])
         elif label.count != str(count):

@@ -21,6 +21,7 @@ from formats.read import (
     TRAP,
     TRAPS,
     VARIABLE,
+    Command,
     Operand,
 )
 
@@ -166,7 +167,7 @@ class FunctionEmission:
 
     # ---- commands
 
-    def value(self, command) -> str:
+    def value(self, command: Command) -> str:
         """The expression of a Set."""
         kind = self.shared.widths.of(command.variable)
         if command.operator == MOVE:
@@ -187,7 +188,7 @@ class FunctionEmission:
             return constant(operand.number & REACH, I64)
         return f"{self.variable(operand.number)} & {constant(REACH, I64)}"
 
-    def written(self, to: str, value: str, position: int, command, hides: bool) -> str:
+    def written(self, to: str, value: str, position: int, command: Command, hides: bool) -> str:
         """Gives a variable a value, behind a barrier where the command is protected, hidden where it is
         guarded."""
         line = f"{to} = {value};"
@@ -195,29 +196,29 @@ class FunctionEmission:
             return f"{line} PROTECT({to}, {position});"
         return f"{line} HIDE({to});" if hides else line
 
-    def set(self, position: int, command) -> str:
+    def set(self, position: int, command: Command) -> str:
         hides = command.operator != MOVE and command.variable in self.shared.guarded
         return self.written(self.variable(command.variable), self.value(command), position, command, hides)
 
-    def load(self, position: int, command) -> str:
+    def load(self, position: int, command: Command) -> str:
         access = ACCESS_TABLE[self.shared.module.accesses[position]]
         value = loaded(access, self.place(command.memory, command.offset, command.operands[0]))
         return self.written(self.variable(command.variable), value, position, command, False)
 
-    def store(self, position: int, command) -> str:
+    def store(self, position: int, command: Command) -> str:
         access = ACCESS_TABLE[self.shared.module.accesses[position]]
         address, value = command.operands
         place, given = self.place(command.memory, command.offset, address), self.operand(value, access.kind)
         cast = f"(uint{access.bits}_t)" if access.bits < BITS[access.kind] else ""
         return f"put{access.bits}({place}, {cast}{given});"
 
-    def move(self, position: int, command) -> str:
+    def move(self, position: int, command: Command) -> str:
         """An Arg or an Out."""
         to = self.program.writes(command)
         value = self.operand(command.operands[0], self.shared.widths.of(to))
         return self.written(f"{'a' if command.code == ARG else 'o'}{to}", value, position, command, False)
 
-    def call(self, position: int, command) -> str:
+    def call(self, position: int, command: Command) -> str:
         callee = command.function
         words = ["m"] + ["depth + 1"] * self.shared.counts_depth
         words += [f"a{variable}" for variable in self.shared.parameters(callee)]
@@ -234,7 +235,7 @@ class FunctionEmission:
             )
         return f"if (depth == {MOST_CALLS}) goto trap7; {called}" if self.shared.counts_depth else called
 
-    def ret(self, _position: int, _command) -> str:
+    def ret(self, _position: int, _command: Command) -> str:
         results = self.shared.results(self.number)
         if len(results) > 1:
             return f"return ({self.shared.returned(self.number)}){{ {', '.join(f'o{x}' for x in results)} }};"
@@ -243,14 +244,14 @@ class FunctionEmission:
     def goto(self, target: int) -> str:
         return f"goto trap{target};" if target < TRAPS else f"goto p{target};"
 
-    def test(self, _position: int, command) -> str:
+    def test(self, _position: int, command: Command) -> str:
         yes, no = map(self.goto, command.targets)
         return f"if ({self.operand(command.operands[0], I32)}) {yes} else {no}"
 
-    def jump(self, _position: int, command) -> str:
+    def jump(self, _position: int, command: Command) -> str:
         return self.goto(command.targets[0])
 
-    def trap(self, _position: int, command) -> str:
+    def trap(self, _position: int, command: Command) -> str:
         return f"goto trap{command.kind};"
 
     STATEMENTS = {

@@ -14,6 +14,7 @@ from typing import Dict, Iterable, List, NamedTuple, Tuple
 
 from ..formats.reading import Bad
 from formats.read import ARG, CALL, LOAD, OUT, RET, SET, VARIABLE
+from formats.read import Function as Callee
 
 from .flow import Blocks
 from .reading import Module
@@ -49,7 +50,7 @@ class Function:
         function = self.program.functions[callee]
         return range(function.first, function.result(0))
 
-    def results(self, function) -> Iterable[int]:
+    def results(self, function: Callee) -> Iterable[int]:
         return range(function.result(0), function.result(function.results))
 
     def read_fact(self, variable: int) -> Fact:

@@ -7,7 +7,7 @@ from __future__ import annotations
 from typing import Dict, List, Tuple
 
 from ..formats.reading import Bad
-from formats.read import ARG, CONSTANT, LOAD, OUT, SET, STORE, TEST, VARIABLE, Operand
+from formats.read import ARG, CONSTANT, LOAD, OUT, SET, STORE, TEST, VARIABLE, Command, Operand
 
 from .operators import ACCESS_TABLE, MOVE, OUTSIDE, SELECT, TABLE
 from .reading import I32, I64, Module
@@ -64,7 +64,7 @@ class Widths:
             kinds = self.module.parameter_types[number] + self.module.result_types[number]
             self.known.update((function.first + index, kind) for index, kind in enumerate(kinds))
 
-    def set(self, command) -> None:
+    def set(self, command: Command) -> None:
         to, operands = Operand(VARIABLE, command.variable), command.operands
         if command.operator == MOVE:
             self.are_one(command.variable, operands[0])
@@ -80,7 +80,7 @@ class Widths:
                 self.is_of(operand, kind)
             self.is_of(to, value)
 
-    def command(self, command) -> None:
+    def command(self, command: Command) -> None:
         operands = command.operands
         if command.code == SET:
             self.set(command)

@@ -4,7 +4,7 @@ A variable is an int, and a constant is `K(value)`. Variables are numbered over 
 image."""
 from __future__ import annotations
 
-from typing import List, NamedTuple, Sequence, Tuple
+from typing import List, NamedTuple, Sequence, Tuple, Union
 
 I32, I64 = 0x7F, 0x7E
 SET, LOAD, STORE, TEST, JUMP, ARG, CALL, OUT, RET, TRAP = range(10)
@@ -16,6 +16,9 @@ class K(NamedTuple):
     """A constant."""
 
     value: int
+
+
+Value = Union[int, K]  # a variable, or a constant
 
 
 class Function(NamedTuple):
@@ -36,11 +39,11 @@ def listed(items: Sequence[bytes]) -> bytes:
     return leb(len(items)) + b"".join(items)
 
 
-def operand(one) -> bytes:
+def operand(one: Value) -> bytes:
     return b"\1" + leb(one.value) if isinstance(one, K) else b"\0" + leb(one)
 
 
-def command(code: int, *fields) -> bytes:
+def command(code: int, *fields: Value) -> bytes:
     """A command: bytes for marks, operators and accesses stand as ints in front, operands behind.
 
     (SET, mark, operator, variable, operand..), (LOAD, mark, load, memory, variable, offset, address),

@@ -8,7 +8,7 @@ import subprocess
 import sys
 import threading
 import unittest
-from typing import Callable, Dict, List, Optional
+from typing import Any, Callable, Dict, List, Optional, Sequence, Tuple
 
 COMPANIONS = os.path.dirname(os.path.dirname(os.path.dirname(os.path.realpath(__file__))))
 sys.path.insert(0, COMPANIONS)
@@ -34,7 +34,7 @@ def program() -> str:
     return found
 
 
-def blade(*words: str, expected=(0,)) -> str:
+def blade(*words: str, expected: Sequence[int] = (0,)) -> str:
     """The output of blade."""
     environment = {**os.environ, "ASAN_OPTIONS": "abort_on_error=1:allocator_may_return_null=1:symbolize=0"}
     done = subprocess.run([program(), *words], capture_output=True, text=True, check=False, env=environment)
@@ -45,7 +45,7 @@ def blade(*words: str, expected=(0,)) -> str:
     return done.stdout
 
 
-def kind_of(code: int):
+def kind_of(code: int) -> Tuple[str, Any]:
     return TYPES.get(code, ("i64", ctypes.c_uint64))
 
 
@@ -89,7 +89,7 @@ class Native:
         self.function("new").restype = ctypes.c_void_p
         self.function("end_text").restype = ctypes.c_char_p
 
-    def function(self, word: str):
+    def function(self, word: str) -> Any:
         return getattr(self.library, f"{self.name}_{word}")
 
     def memory(self, instance: int, number: int) -> bytes:
@@ -113,7 +113,7 @@ class Native:
             ctypes.c_uint32(len(contents)),
         )
 
-    def call(self, instance: int, export: bytes, arguments: List[int]):
+    def call(self, instance: int, export: bytes, arguments: List[int]) -> Tuple[int, List[str]]:
         """How a call ends, and its results."""
         one = self.exports[export]
         results = [kind_of(code) for code in self.module.result_types[one.number]]

@@ -5,11 +5,10 @@ from __future__ import annotations
 import random
 from typing import Dict, List, Tuple
 
-import outcomes  # noqa: F401
+from outcomes import I32
 from images import (
     ARG,
     CALL,
-    I32,
     I64,
     JUMP,
     LOAD,
@@ -23,6 +22,7 @@ from images import (
     TEST,
     Function,
     K,
+    Value,
     image,
 )
 from blade_companions.formats.lowering import ACCESS_NAMES
@@ -90,7 +90,7 @@ class Writer:
     def position(self) -> int:
         return self.entry + len(self.commands)
 
-    def operand(self, kind: int):
+    def operand(self, kind: int) -> Value:
         chance = self.random.random()
         if chance < 0.2:
             return K(value(self.random, kind))

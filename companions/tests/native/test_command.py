@@ -101,7 +101,7 @@ class Command(unittest.TestCase):
 
     # ---- verdicts
 
-    def test_only_verified_images(self):
+    def test_only_verified_images(self) -> None:
         no, yes = self.hardened("lookup"), self.hardened("masked_ssa")
         status, printed = self.call(no, "-o", self.path("lookup.c"))
         self.assertEqual((status, self.made()), (1, []))
@@ -114,14 +114,14 @@ class Command(unittest.TestCase):
         self.assertEqual((status, self.made()), (1, []))
         self.assertIn("there is no certificate", printed)
 
-    def test_allow_no_is_written_into_the_files(self):
+    def test_allow_no_is_written_into_the_files(self) -> None:
         status, _ = self.call(self.hardened("lookup"), "-o", self.path("lookup.c"), "--allow-no")
         self.assertEqual((status, self.made()), (0, ["lookup.c", "lookup.h"]))
         for ending in ("c", "h"):
             with open(self.path(f"lookup.{ending}"), encoding="ascii") as file:
                 self.assertIn("blade verify says no", file.readline())
 
-    def test_files_of_others_stay(self):
+    def test_files_of_others_stay(self) -> None:
         found = self.hardened("masked_ssa")
         for ending in ("c", "h"):
             self.path(f"a.{ending}", b"int mine;\n")
@@ -129,7 +129,7 @@ class Command(unittest.TestCase):
             self.assertEqual((status, self.made()), (3, [f"a.{ending}"]), printed)
             os.unlink(self.path(f"a.{ending}"))
 
-    def test_usage(self):
+    def test_usage(self) -> None:
         for words in ([], ["-o", "a-b.c"], ["-o", "int.c"], ["-o", "a.o"], ["--object"], ["--level", "-O9"]):
             self.assertEqual(self.call("x.img", *words)[0], 2, words)
         self.assertEqual(self.call("x.img", "--check", "no.o")[0], 3)
@@ -142,7 +142,7 @@ class Command(unittest.TestCase):
         os.chmod(path, 0o755)
         return path
 
-    def test_what_the_check_refuses_is_not_kept(self):
+    def test_what_the_check_refuses_is_not_kept(self) -> None:
         found = self.path("tried.img", looked_up())
         words = (found, "-o", self.path("tried.c"), "--allow-no", "--library")
         self.assertEqual(self.call(*words)[0], 0)
@@ -154,7 +154,7 @@ class Command(unittest.TestCase):
         self.assertEqual(self.call(*words, "--cc", self.compiler("-DNO_SUCH=", "-nosuch"))[0], 3)
         self.assertEqual(self.made(), ["clang", "tried.c", "tried.h"])
 
-    def test_linked_files(self):
+    def test_linked_files(self) -> None:
         """A library passes, and one of two images by each; not without symbols, or with a fence gone."""
         for name, data in (("tried", looked_up()), ("deep", deep())):
             words = ("-o", self.path(f"{name}.c"), "--allow-no", "--library", "--cc", "gcc")
@@ -184,7 +184,7 @@ class Command(unittest.TestCase):
 
     # ---- C's stack
 
-    def test_a_stack_that_is_too_small(self):
+    def test_a_stack_that_is_too_small(self) -> None:
         """A call is refused on a thread with 32 KiB, and on a stack that isn't the thread's."""
         self.assertEqual(
             self.call(self.path("deep.img", deep()), "-o", self.path("deep.c"), "--allow-no", "--object")[0],
@@ -197,13 +197,13 @@ class Command(unittest.TestCase):
 
     # ---- names
 
-    def test_names_of_parameters(self):
+    def test_names_of_parameters(self) -> None:
         good = ("key", "key_size", "x1", "message")
         own = ("", "m", "p0", "r12", "int", "uint32_t", "errno")
         bad = ("Key", "NULL", "a__b", "_a", "a-b", "a\n", "\u00e9", "a" * 99)
         self.assertEqual([name for name in good + own + bad if is_parameter(name)], list(good))
 
-    def test_another_module_is_refused(self):
+    def test_another_module_is_refused(self) -> None:
         found = self.hardened("masked_ssa")
         words = (found, "-o", self.path("a.c"), "--module")
         self.assertEqual(self.call(*words, f"{TOP}/examples/masked_ssa.wasm")[0], 0)
@@ -212,7 +212,7 @@ class Command(unittest.TestCase):
         self.assertIn("the image wasn't made from this module", printed)
 
     @unittest.skipUnless(shutil.which("wasm-opt"), "the tools of blade-cc aren't installed")
-    def test_from_c(self):
+    def test_from_c(self) -> None:
         """blade-cc writes the header and the object after a yes; what they were made from is judged again."""
         out, source = self.path("out"), self.path("add.c")
         words = [
@@ -245,7 +245,7 @@ class Command(unittest.TestCase):
     # ---- memcheck
 
     @unittest.skipUnless(shutil.which("valgrind"), "valgrind isn't installed")
-    def test_memcheck(self):
+    def test_memcheck(self) -> None:
         start = self.path("a.start", b"arg 3\n")
         self.assertEqual(self.call(self.hardened("masked_ssa"), "--test", start)[0], 0)
         status, printed = self.call(self.hardened("lookup"), "--test", f"lookup={start}")
@@ -253,7 +253,7 @@ class Command(unittest.TestCase):
         status, printed = self.call(self.path("tried.img", looked_up()), "--test", start)
         self.assertEqual((status, "nothing secret" in printed), (3, True), printed)
 
-    def test_memcheck_isn_t_there(self):
+    def test_memcheck_isn_t_there(self) -> None:
         """A test that can't run isn't one that passed."""
         found, path = self.hardened("masked_ssa"), os.environ["PATH"]
         os.environ["PATH"] = self.folder

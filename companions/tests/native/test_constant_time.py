@@ -55,12 +55,12 @@ class ConstantTime(unittest.TestCase):
             ends = pool.map(lambda work: of_routine(work[0], "ledger", *work[1:], more), works)
         return list(zip(works, ends))
 
-    def test_routines(self):
+    def test_routines(self) -> None:
         for work, (status, printed) in self.all(CASES):
             with self.subTest(work=work):
                 self.assertEqual((status, printed), (0, CASES[work[0]].result.hex()))
 
-    def test_control_without_value_barriers(self):
+    def test_control_without_value_barriers(self) -> None:
         """Some compiler makes a branch of a secret somewhere, and memcheck reports it."""
         told = [
             work
@@ -70,7 +70,7 @@ class ConstantTime(unittest.TestCase):
         print(f" without value barriers: {told}", end=" ", flush=True)
         self.assertTrue(told)
 
-    def test_control_lookup(self):
+    def test_control_lookup(self) -> None:
         """A look-up by a secret index has a secret address in every build."""
         with tempfile.TemporaryDirectory() as folder:
             blade("harden", f"{folder}/lookup.img", f"{folder}/lookup.json", f"{TOP}/examples/lookup.wasm")
@@ -80,7 +80,7 @@ class ConstantTime(unittest.TestCase):
             with self.subTest(compiler=compiler, level=level):
                 self.assertEqual(memchecked(data, "lookup/lookup", Start([3], []), compiler, level)[0], TOLD)
 
-    def test_masked_lookup(self):
+    def test_masked_lookup(self) -> None:
         """The look-up with a mask has none."""
         with tempfile.TemporaryDirectory() as folder:
             blade(

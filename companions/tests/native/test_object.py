@@ -3,15 +3,13 @@ wrong. Licence: public domain (CC0)."""
 import re
 import tempfile
 import unittest
-from typing import Callable, List
+from typing import Any, Callable, List
 
-import outcomes  # noqa: F401
+from outcomes import module_of, translate
 from images import I32, JUMP, LOAD, MOVE, OUT, RET, SELECT, SET, TEST, Function, K, bounded, image
 from blade_companions.native.building import build
 from blade_companions.native.checking import Checked, check_object
 from blade_companions.formats.reading import Bad
-from blade_companions.native.reading import module_of
-from blade_companions.native.translation import translate
 
 EQ, POPCNT = 0x46, 0x69
 COMPILERS = ("clang", "gcc")
@@ -57,7 +55,7 @@ class Objects(unittest.TestCase):
             build(compiler, f"{folder}/tried.c", f"{folder}/tried.o", level, ["-c", *more])
             return check_object(module, f"{folder}/tried.o", "tried")
 
-    def found(self, pattern: str, **more) -> None:
+    def found(self, pattern: str, **more: Any) -> None:
         """Each compiler's object has a finding of this kind."""
         for compiler in COMPILERS:
             with self.subTest(compiler=compiler):
@@ -71,7 +69,7 @@ class Objects(unittest.TestCase):
 
         return edit
 
-    def test_what_is_right_passes(self):
+    def test_what_is_right_passes(self) -> None:
         for compiler in COMPILERS:
             for level in ("-O1", "-O2", "-O3", "-Os"):
                 with self.subTest(compiler=compiler, level=level):
@@ -79,13 +77,13 @@ class Objects(unittest.TestCase):
                     self.assertEqual((checked.findings, checked.protects), ([], 1))
                     self.assertGreaterEqual(checked.barriers, 1)
 
-    def test_protects_left_out(self):
+    def test_protects_left_out(self) -> None:
         self.found("protect 9 has no barrier", more=["-DBLADE_NO_PROTECTS"])
 
-    def test_a_barrier_without_its_fence(self):
+    def test_a_barrier_without_its_fence(self) -> None:
         self.found("no barrier stands where protect 9 has one", edit=self.edited(r': lfence"', r': nop"'))
 
-    def test_a_value_that_passes_by_its_barrier(self):
+    def test_a_value_that_passes_by_its_barrier(self) -> None:
         """The value is copied in front of the barrier, and the copy is read."""
         self.found(
             "reads the value of protect 9 in front of its barrier",
@@ -95,7 +93,7 @@ class Objects(unittest.TestCase):
             ),
         )
 
-    def test_a_choice_that_becomes_a_branch(self):
+    def test_a_choice_that_becomes_a_branch(self) -> None:
         self.found(
             "a branch that no Test of the image has",
             edit=self.edited(
@@ -103,13 +101,13 @@ class Objects(unittest.TestCase):
             ),
         )
 
-    def test_a_call_of_a_library(self):
+    def test_a_call_of_a_library(self) -> None:
         self.found(
             "a call or a table",
             edit=self.edited(r"v5 = popcnt32\(v5\);", "v5 = (uint32_t)atoi((const char *)memory0);"),
         )
 
-    def test_a_table(self):
+    def test_a_table(self) -> None:
         self.found(
             "a table",
             edit=self.edited(
@@ -119,11 +117,11 @@ class Objects(unittest.TestCase):
             ),
         )
 
-    def test_an_object_without_lines(self):
+    def test_an_object_without_lines(self) -> None:
         """Nothing is known of its branches, so none passes."""
         self.found("a branch that no Test of the image has.*no line", more=["-g0"])
 
-    def test_other_files_are_refused(self):
+    def test_other_files_are_refused(self) -> None:
         """What isn't an ELF file of x86-64 is refused, and so is a program at a fixed address."""
         head = bytearray(b"\x7fELF\2\1" + bytes(10) + b"\2\0\x3e\0")
         other = bytearray(head)
@@ -136,18 +134,18 @@ class Objects(unittest.TestCase):
                 with self.assertRaisesRegex(Bad, why):
                     check_object(module_of(looked_up()), file.name, "tried")
 
-    def test_cases_stay_branches(self):
+    def test_cases_stay_branches(self) -> None:
         for compiler in COMPILERS:
             for level in ("-O1", "-O2", "-O3", "-Os"):
                 with self.subTest(compiler=compiler, level=level):
                     self.assertEqual(self.checked(compiler, level=level, data=cases()).findings, [])
 
-    def test_cases_that_become_a_table(self):
+    def test_cases_that_become_a_table(self) -> None:
         """Without the flag that forbids it clang makes one; gcc 12 was not seen to."""
         findings = self.checked("clang", more=["-fjump-tables"], data=cases()).findings
         self.assertTrue(any("a table" in one for one in findings), findings)
 
-    def test_an_indirect_call(self):
+    def test_an_indirect_call(self) -> None:
         self.found(
             "an indirect jump or call",
             edit=self.edited(r"v5 = popcnt32\(v5\);", "v5 = (uint32_t)((int (*)(void))(memory0 + v5))();"),

@@ -81,10 +81,10 @@ class Random(unittest.TestCase):
             "outcomes", file=sys.stderr,
         )
 
-    def test_modules_that_blade_makes(self):
+    def test_modules_that_blade_makes(self) -> None:
         self.all_same(made)
 
-    def test_images_of_all_commands(self):
+    def test_images_of_all_commands(self) -> None:
         self.all_same(mixed)
 
 

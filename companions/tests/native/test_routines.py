@@ -12,7 +12,7 @@ from built import CASES, WAYS, routine
 class Routines(unittest.TestCase):
     """All routines in all ways, by both compilers."""
 
-    def test_vectors(self):
+    def test_vectors(self) -> None:
         for name in CASES:
             for way in WAYS:
                 one = routine(name, way)
@@ -28,7 +28,7 @@ class Routines(unittest.TestCase):
                             self.assertEqual(outcome, told)
                             self.assertEqual(one.result(outcome), one.expected)
 
-    def test_objects(self):
+    def test_objects(self) -> None:
         for source in sorted({case.source for case in CASES.values()}):
             one = routine(next(name for name, case in CASES.items() if case.source == source), "ledger")
             for compiler in ("clang", "gcc"):

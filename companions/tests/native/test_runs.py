@@ -5,6 +5,7 @@ import os
 import subprocess
 import tempfile
 import unittest
+from typing import Any, List, Tuple
 
 from outcomes import Native, blade, module_of, read_start, translate
 from images import (
@@ -41,7 +42,7 @@ TRAPS = (
 )
 
 
-def growth(size: int, reserve: int, entry: int):
+def growth(size: int, reserve: int, entry: int) -> Function:
     """memory.grow as it is lowered: of parameter 1 into result 2, the scratch variable is 3."""
     return Function(
         [I32],
@@ -84,12 +85,12 @@ class Runs(unittest.TestCase):
         self.assertEqual(native.outcome(export.encode(), read_start(start)), told)
         return told
 
-    def test_each_trap(self):
+    def test_each_trap(self) -> None:
         native = self.native(image([Function([], [], 0, [(TRAP, kind)]) for kind in range(8)]))
         for kind, text in enumerate((*TRAPS, "call stack exhausted")):
             self.assertEqual(self.same(native, f"t/f{kind}", ""), f"trapped {text}\n")
 
-    def test_a_trap_keeps_what_was_written(self):
+    def test_a_trap_keeps_what_was_written(self) -> None:
         commands = bounded(7, 2, 0, (STORE, 0x36, 0, 0, 1, K(0x01020304)), 4) + [(TRAP, 0)]
         native = self.native(image([Function([I32], [], 2, commands)], memories=[(1, 1)]))
         self.assertEqual(
@@ -97,14 +98,14 @@ class Runs(unittest.TestCase):
             "trapped unreachable\nmemory 0 pages 1\nrow 0 32 04030201" + "0" * 24 + "\n",
         )
 
-    def test_bounds(self):
+    def test_bounds(self) -> None:
         commands = bounded(7, 3, 0, (LOAD, 0, 0x28, 0, 4, 4, 1), 4) + [(OUT, 0, 0, 4), (RET,)]
         native = self.native(image([Function([I32], [I32], 4, commands)], memories=[(1, 1)]))
         for address in (0, 65528, 65529, 65536, 0x7FFFFFFF, 0x80000000, 0xFFFFFFF8, 0xFFFFFFFF):
             told = self.same(native, "t/f0", f"arg {address}\n")
             self.assertEqual(told.startswith("trapped out of bounds"), address > 65528)
 
-    def test_growth(self):
+    def test_growth(self) -> None:
         reads = bounded(16, 6, 0, (LOAD, 0, 0x2D, 0, 7, 0, 4), 1) + [(OUT, 0, 0, 7), (RET,)]
         native = self.native(image([growth(0, 4, 7), Function([I32], [I32], 4, reads)], memories=[(1, 4)]))
         for pages in (0, 1, 3, 4, 0xFFFFFFFF):
@@ -117,7 +118,7 @@ class Runs(unittest.TestCase):
         native.function("reset")(ctypes.c_void_p(instance))
         self.assertEqual(native.call(instance, b"t/f1", [65536])[0], 4)
 
-    def test_a_memory_without_pages(self):
+    def test_a_memory_without_pages(self) -> None:
         """Each access to it traps, also that of no address at all, until it has grown."""
         reads = bounded(16, 6, 0, (LOAD, 0, 0x2D, 0, 7, 0, 4), 1) + [(OUT, 0, 0, 7), (RET,)]
         native = self.native(image([growth(0, 1, 7), Function([I32], [I32], 4, reads)], memories=[(0, 1)]))
@@ -129,7 +130,7 @@ class Runs(unittest.TestCase):
         self.assertEqual([never.write(instance, 0, 0, contents) for contents in (b"", b"x")], [1, 0])
         never.function("free")(ctypes.c_void_p(instance))
 
-    def test_a_memory_of_256_pages(self):
+    def test_a_memory_of_256_pages(self) -> None:
         """The last bytes of the largest memory are there, and nothing behind them."""
         last = 256 * 65536 - 4
         stores = bounded(7, 2, 0, (STORE, 0x36, 0, 0, 1, K(0x01020304)), 4) + [(RET,)]
@@ -139,7 +140,7 @@ class Runs(unittest.TestCase):
         for address in (last + 1, last + 4, 0xFFFFFFFF):
             self.assertTrue(self.same(native, "t/f0", f"arg {address}\n").startswith("trapped out of bounds"))
 
-    def test_depth(self):
+    def test_depth(self) -> None:
         """A function that calls itself as often as its argument says: at most 1,024 calls are open."""
         commands = [(TEST, 0, 8, 12), (SET, 0, SUB, 1, 0, K(1)), (ARG, 0, 0, 0, 1), (CALL, 0), (RET,), (RET,)]
         native = self.native(image([Function([I32], [], 2, commands)]))
@@ -154,14 +155,14 @@ class Runs(unittest.TestCase):
             + [Function([], [], 0, [(CALL, at), (RET,)]) for at in range(count - 1)]
         )
 
-    def test_depth_without_a_round(self):
+    def test_depth_without_a_round(self) -> None:
         self.assertFalse(counts_depth(module_of(self.chain(1024)).calls()))
         native = self.native(self.chain(1025))
         self.assertTrue(counts_depth(native.module.calls()))
         self.assertEqual(self.same(native, "t/f1023", ""), "returned\n")
         self.assertEqual(self.same(native, "t/f1024", ""), "trapped call stack exhausted\n")
 
-    def test_several_results(self):
+    def test_several_results(self) -> None:
         callee = Function(
             [I32, I64], [I64, I32, I32], 5, [(OUT, 0, 0, 1), (OUT, 0, 1, 0), (OUT, 0, 2, K(9)), (RET,)]
         )
@@ -182,7 +183,7 @@ class Runs(unittest.TestCase):
         self.assertEqual(self.same(native, "t/f0", "arg 1\narg 2\n"), "returned i64 2 i32 1 i32 9\n")
         self.assertEqual(self.same(native, "t/f1", ""), "returned i32 5 i64 1099511627776\n")
 
-    def test_globals(self):
+    def test_globals(self) -> None:
         commands = [(SET, 0, ADD, 0, 0, K(1)), (OUT, 0, 0, 0), (RET,)]
         native = self.native(image([Function([], [I32], 1, commands)], globals_=[(I32, 41), (I64, 1 << 63)]))
         self.assertEqual(self.same(native, "t/f0", ""), "returned i32 42\n")
@@ -199,7 +200,7 @@ class Runs(unittest.TestCase):
         native.function("free")(pointer)
         native.function("free")(None)
 
-    def test_accessors_keep_to_the_memory(self):
+    def test_accessors_keep_to_the_memory(self) -> None:
         native = self.native(image([Function([], [], 0, [(RET,)])], memories=[(1, 2)]))
         instance = native.function("new")()
         for number, offset, size, is_inside in (
@@ -211,7 +212,7 @@ class Runs(unittest.TestCase):
         ):
             self.assertEqual(native.write(instance, number, offset, b"x" * size), is_inside)
 
-    def test_a_memory_has_its_reservation(self):
+    def test_a_memory_has_its_reservation(self) -> None:
         """Behind the pages that a memory may grow to nothing can be read, as far as any address and offset
         reach."""
         native = self.native(image([Function([], [], 0, [(RET,)])], memories=[(1, 3)]))
@@ -229,13 +230,13 @@ class Runs(unittest.TestCase):
         native.function("free")(ctypes.c_void_p(instance))
 
     @staticmethod
-    def maps():
+    def maps() -> List[Tuple[Any, ...]]:
         """The places of this process's memory: first, last, rights."""
         with open("/proc/self/maps", encoding="ascii") as file:
             rows = [line.split()[:2] for line in file]
         return [(*(int(one, 16) for one in place.split("-")), rights) for place, rights in rows]
 
-    def test_the_stack_is_known(self):
+    def test_the_stack_is_known(self) -> None:
         self.assertEqual(most_of_functions([set(), {0}, {0, 1}], {0: 16, 1: 32, 2: 8}), 56)
         self.assertEqual(most_of_functions([{0}], {0: 16}), 1024 * 16)
         with open(f"{self.folder}/tried.su", "w", encoding="ascii") as file:
@@ -244,12 +245,12 @@ class Runs(unittest.TestCase):
         self.assertEqual((frames.functions, frames.other), ({0: 40}, 48))
         self.assertEqual(most_bytes([set()], frames), 40 + 2 * 48 + SYSTEM)
 
-    def test_a_frame_of_unknown_size_is_refused(self):
+    def test_a_frame_of_unknown_size_is_refused(self) -> None:
         with open(f"{self.folder}/tried.su", "w", encoding="ascii") as file:
             file.write("t.image:7:f0\t8\tdynamic\n")
         self.assertRaises(Bad, frames_in, f"{self.folder}/tried.su")
 
-    def test_cpp_takes_the_header(self):
+    def test_cpp_takes_the_header(self) -> None:
         translation = translate(
             module_of(image([Function([I32], [I32], 3, [(SET, 0, MOVE, 2, 0), (OUT, 0, 0, 2), (RET,)])])),
             "tried",
@@ -274,7 +275,7 @@ class Runs(unittest.TestCase):
             check=True,
         )
 
-    def test_other_targets_compile(self):
+    def test_other_targets_compile(self) -> None:
         """AArch64's barriers are only assembled here; a target without a known barrier is refused."""
         commands = [(SET, 8, ADD, 2, 0, 0), (OUT, 0, 0, 2), (RET,)]
         translation = translate(module_of(image([Function([I32], [I32], 3, commands)])), "tried")
