@@ -46,7 +46,7 @@ NOTE = ("blade-label: note: a parameter's label holds for calls from outside: "
 
 def words_of(words: Sequence[str]) -> argparse.Namespace:
     parser = argparse.ArgumentParser(prog="blade-label", usage="see the head of this file, "
-                                     "and docs/GUIDE.md, section 2", add_help=False)
+                                     "and docs/label-secrets.md", add_help=False)
     parser.add_argument("files", nargs="*")
     for flag in ("--replace", "--only", "--unlabelled", "--remove", "--list", "--check"):
         parser.add_argument(flag, action="store_true")
