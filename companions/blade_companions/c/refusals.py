@@ -5,6 +5,7 @@ from __future__ import annotations
 import re
 from typing import Iterable, List, NamedTuple, Optional
 
+from ..formats.instructions import BLOCKS, BR_TABLE, END, read_instruction, read_locals
 from ..formats.reading import Reader
 from .tools import INCLUDE
 from ..formats.module import FUNCTION, GLOBAL, MEMORY, TABLE, Import, Module
@@ -17,8 +18,6 @@ OTHERS = {0xFD: "a vector", 0xFE: "an atomic access", 0x12: "a tail call", 0x13:
           0xD0: "a reference", 0xD1: "a reference", 0xD2: "a reference",
           0x25: "a table access", 0x26: "a table access", 0x1C: "a select with a type", 0x06: "an exception",
           0x07: "an exception", 0x08: "an exception"}
-BLOCKS, END, BR_TABLE = (0x02, 0x03, 0x04), 0x0B, 0x0E
-ONE_NUMBER = frozenset([0x0C, 0x0D, 0x10, 0x20, 0x21, 0x22, 0x23, 0x24, 0x3F, 0x40])
 DENSE = 200  # a switch of more cases is the likely reason of deep nesting
 SORTS = {FUNCTION: "function", TABLE: "table", MEMORY: "memory", GLOBAL: "global"}
 
@@ -44,9 +43,9 @@ class Body:
         kind = module.type_of(function)
         self.locals = len(kind.params)
         self.is_float = any(one in FLOAT_TYPES for one in kind.params + kind.results)
-        for _ in range(self.reader.number()):
-            self.locals += self.reader.number()
-            self.is_float |= self.reader.byte() in FLOAT_TYPES
+        for count, sort in read_locals(self.reader):
+            self.locals += count
+            self.is_float |= sort in FLOAT_TYPES
         while self.reader.place < end and not self.refused:
             self.instruction()
         if self.is_float and not self.refused:
@@ -56,38 +55,22 @@ class Body:
         self.refused = Refusal(self.function, place, text)
 
     def instruction(self) -> None:
-        reader = self.reader
-        place, code = reader.place, reader.byte()
+        place, code, numbers = read_instruction(self.reader)
         if code in FLOATS:
             self.refuse(place, "an instruction of floats")
         elif code == BULK:
-            self.refuse(place, "an instruction of floats" if reader.number() < CONVERSIONS
-                        else "an operation on whole memories")
+            is_float = self.reader.number() < CONVERSIONS
+            self.refuse(place, "an instruction of floats" if is_float else "an operation on whole memories")
         elif code in OTHERS:
             self.refuse(place, OTHERS[code])
         elif code in BLOCKS:
-            reader.signed()
             self.depth += 1
             if self.depth > self.most_depth:
                 self.most_depth, self.deepest = self.depth, place
         elif code == END:
             self.depth -= 1
-        elif code == BR_TABLE:
-            arms = len(reader.many(reader.number))
-            reader.number()
-            if arms > self.arms:
-                self.arms, self.switch = arms, place
-        else:
-            self.immediates(code)
-
-    def immediates(self, code: int) -> None:
-        reader = self.reader
-        if 0x28 <= code <= 0x3E or code == 0x11:
-            reader.number(), reader.number()
-        elif code in ONE_NUMBER:
-            reader.number()
-        elif code in (0x41, 0x42):
-            reader.signed()
+        elif code == BR_TABLE and len(numbers) - 1 > self.arms:
+            self.arms, self.switch = len(numbers) - 1, place
 
 
 def bodies_of(module: Module) -> List[Body]:

@@ -6,6 +6,8 @@ import hashlib
 from dataclasses import dataclass
 from typing import Dict, List, Sequence, Tuple
 
+from . import encoding
+from .encoding import custom, leb, vector
 from .reading import Bad, Reader
 from .module import FUNCTION, GLOBAL, MEMORY, Module
 
@@ -34,22 +36,11 @@ KINDS: Dict[str, Kind] = {
 Entry = Tuple[str, Tuple[int, ...]]
 
 
-def leb(number: int) -> bytes:
-    """A number as unsigned LEB128, in its shortest spelling."""
-    spelled = []
-    while True:
-        number, low = number >> 7, number & 0x7F
-        spelled.append(low | (0x80 if number else 0))
-        if not number:
-            return bytes(spelled)
-
-
 def section_of(entries: Sequence[Entry]) -> bytes:
     """The custom section of entries."""
     version = 2 if any(KINDS[kind].is_demand for kind, _ in entries) else 1
-    spelled = b"".join(bytes([KINDS[kind].code]) + b"".join(map(leb, numbers)) for kind, numbers in entries)
-    contents = leb(len(NAME)) + NAME.encode() + bytes([version]) + leb(len(entries)) + spelled
-    return b"\0" + leb(len(contents)) + contents
+    spelled = [bytes([KINDS[kind].code, *b"".join(map(leb, numbers))]) for kind, numbers in entries]
+    return custom(NAME, bytes([version]) + vector(spelled))
 
 
 def sum_of(module: Module) -> bytes:
@@ -57,14 +48,12 @@ def sum_of(module: Module) -> bytes:
     told = hashlib.sha256()
     for section in module.sections:
         if section.number in SUMMED:
-            told.update(bytes([section.number]) + leb(section.end - section.contents)
-                        + module.data[section.contents : section.end])
+            told.update(encoding.section(section.number, module.data[section.contents : section.end]))
     return told.digest()
 
 
 def sum_section(module: Module) -> bytes:
-    contents = leb(len(SUM)) + SUM.encode() + b"\1" + sum_of(module)
-    return b"\0" + leb(len(contents)) + contents
+    return custom(SUM, b"\1" + sum_of(module))
 
 
 def is_changed(module: Module) -> bool:

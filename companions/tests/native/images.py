@@ -6,6 +6,8 @@ from __future__ import annotations
 
 from typing import List, NamedTuple, Sequence, Tuple, Union
 
+from blade_companions.formats.encoding import leb, vector
+
 I32, I64 = 0x7F, 0x7E
 SET, LOAD, STORE, TEST, JUMP, ARG, CALL, OUT, RET, TRAP = range(10)
 MOVE, OUTSIDE, SELECT = 0x00, 0x01, 0x1B
@@ -29,14 +31,6 @@ class Function(NamedTuple):
     variables: int
     commands: List[Tuple]
     secret: bool = False  # whether its parameters are
-
-
-def leb(number: int) -> bytes:
-    return bytes([number]) if number < 128 else bytes([number & 127 | 128]) + leb(number >> 7)
-
-
-def listed(items: Sequence[bytes]) -> bytes:
-    return leb(len(items)) + b"".join(items)
 
 
 def operand(one: Value) -> bytes:
@@ -69,8 +63,8 @@ def command(code: int, *fields: Value) -> bytes:
 def function(one: Function) -> bytes:
     label = b"\1" if one.secret else b"\0"
     return (
-        listed([bytes([kind]) + label for kind in one.parameters])
-        + listed([bytes([kind]) for kind in one.results])
+        vector([bytes([kind]) + label for kind in one.parameters])
+        + vector([bytes([kind]) for kind in one.results])
         + leb(one.variables)
         + leb(len(one.commands))
     )
@@ -91,10 +85,10 @@ def image(
     ]
     return (
         b"BLIM\1"
-        + listed([bytes([kind, 0]) + leb(value) for kind, value in globals_])
-        + listed([leb(pages) + leb(reserve) + label + b"\0" for pages, reserve in memories])
-        + listed([function(one) for one in functions])
-        + listed(exports)
+        + vector([bytes([kind, 0]) + leb(value) for kind, value in globals_])
+        + vector([leb(pages) + leb(reserve) + label + b"\0" for pages, reserve in memories])
+        + vector([function(one) for one in functions])
+        + vector(exports)
         + b"".join(command(*one) for defined in functions for one in defined.commands)
     )
 
