@@ -4,12 +4,10 @@ archives, and marked values. MORE has those whose answer is no or an error, RIGH
 are all right. Licence: public domain (CC0)."""
 from typing import Dict, Optional, Tuple
 
-from labels_cases import COPY, HEAD, LABELLED, NO, TABLE, YES, Answer, Case
+from labels_cases import COPY, HEAD, LABELLED, LOOK, NO, SAME, TABLE, YES, Answer, Case
 
 REFUSED = (Answer(1, "constant-time no"), Answer(5, "error: "))  # either keeps the label from getting lost
 BUILD = (Answer(3, "error"),)  # clang or the linker refuses it
-SAME = "unsigned f(unsigned k) { return k; }\n"
-LOOK = "unsigned g(unsigned i) { return table[f(i) & 255]; }\n"
 TWO_WORDS = ("arg 1\narg 3\n", "arg 1\narg 9\n")
 H = "unsigned h(unsigned k);\nBLADE_SECRET_PARAM(h, k);\nunsigned h(unsigned k) { return f(k) + 1; }\n"
 IN_MEMORY = ("arg 131072\nmemory 0 131072 03000000\n", "arg 131072\nmemory 0 131072 09000000\n")
