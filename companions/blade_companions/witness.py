@@ -158,13 +158,13 @@ def tell_found(sought: Sought, searched: Searched, words: argparse.Namespace, li
     return WITNESSED
 
 
-def tell_shown(sought: Sought, searched: Searched, words: argparse.Namespace) -> int:
+def tell_whole_runs(sought: Sought, searched: Searched, words: argparse.Namespace) -> int:
     """Writes and tells what whole runs show."""
-    attempt, tried = searched.shown
+    attempt, tried = searched.whole_runs
     write_starts(sought, words.out, attempt.first, tried.other)
-    again = telling.runs_again(words.image, words.export, words.out, tried.shown.startswith("position"))
+    again = telling.runs_again(words.image, words.export, words.out, tried.differs.startswith("position"))
     write_file(f"{words.out}.again", f"{again}\n".encode())
-    say(f"  but whole runs of two secrets differ, though no observer was shown to see it: {tried.shown}")
+    say(f"  but whole runs of two secrets differ, though no observer was shown to see it: {tried.differs}")
     say_all(f"  secret changed: {change}"
             for change in telling.what_differs(sought.secret, attempt.first, tried.other))
     say(f"again: {again}")
@@ -181,7 +181,7 @@ def run(words: argparse.Namespace, folder: str) -> int:
     if searched.found:
         return tell_found(sought, searched, words, lines)
     say_all(telling.nothing(searched.done, evidence, words.seconds, lines))
-    return tell_shown(sought, searched, words) if searched.shown else NOTHING
+    return tell_whole_runs(sought, searched, words) if searched.whole_runs else NOTHING
 
 
 def started(words: Sequence[str]) -> int:

@@ -79,7 +79,7 @@ def preparation(module: Module, number: int, start: Start) -> Tuple[List[str], L
     return lines, words
 
 
-def driver(module: Module, one: Export, start: Start, shown: Result = Result()) -> str:
+def driver(module: Module, one: Export, start: Start, result: Result = Result()) -> str:
     """A program that makes the call with undefined secrets, and prints how it ended and the bytes shown."""
     lines, words = preparation(module, one.number, start)
     body = "\n    ".join(lines)
@@ -93,11 +93,11 @@ int main(void)
     if (!m) return 2;
     {body}
     {NAME}_end end = {NAME}_{one.word}({', '.join(words)});
-    uint8_t found[{shown.size + 1}];
-    {NAME}_read(m, {shown.memory}, {shown.offset}u, found, {shown.size}u);
+    uint8_t found[{result.size + 1}];
+    {NAME}_read(m, {result.memory}, {result.offset}u, found, {result.size}u);
     VALGRIND_MAKE_MEM_DEFINED(found, sizeof found);
     printf("{ENDED}%s\\n", {NAME}_end_text(end));
-    for (int at = 0; at < {shown.size}; at++) printf("%02x", found[at]);
+    for (int at = 0; at < {result.size}; at++) printf("%02x", found[at]);
     return 0;
 }}
 """
@@ -110,14 +110,14 @@ def memcheck(
     compiler: str,
     level: str,
     more: Sequence[str] = (),
-    shown: Result = Result(),
+    result: Result = Result(),
 ) -> "subprocess.CompletedProcess[str]":
     """Compiles the call, and runs it under memcheck."""
     fits(module, one.number, start)
     translation = translate(module, NAME)
     with tempfile.TemporaryDirectory(prefix="blade-native-") as folder:
         texts = {f"{NAME}.c": translation.source, f"{NAME}.h": translation.header}
-        texts["driver.c"] = driver(module, one, start, shown)
+        texts["driver.c"] = driver(module, one, start, result)
         for name, text in texts.items():
             with open(f"{folder}/{name}", "w", encoding="ascii") as file:
                 file.write(text)

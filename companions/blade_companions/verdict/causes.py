@@ -32,7 +32,7 @@ class Cause:
     reached: List[End] = field(default_factory=list)
     reach: Optional[Reach] = None
     likely: Optional[Guess] = None
-    shown: str = ""  # what a run and a witness show, in place of what is likely
+    observed: str = ""  # what a run and a witness show, in place of what is likely
 
     @property
     def ends(self) -> int:

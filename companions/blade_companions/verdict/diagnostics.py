@@ -99,13 +99,13 @@ class Told:
     weights: List[int] = field(default_factory=list)
     sources: List[Source] = field(default_factory=list)
     # by the positions of problems, what a run and a witness show, in place of what is likely
-    shown: Dict[int, str] = field(default_factory=dict)
+    observed: Dict[int, str] = field(default_factory=dict)
     witnessed: Optional[int] = None  # the position of the problem that a witness shows
 
     def also(self, one: Problem) -> str:
         """What is shown of a problem, behind its text."""
-        return (f". {self.shown[one.position][0].upper()}{self.shown[one.position][1:]}"
-                if one.position in self.shown else "")
+        return (f". {self.observed[one.position][0].upper()}{self.observed[one.position][1:]}"
+                if one.position in self.observed else "")
 
 
 def rule_of(end: End, instruction: str) -> Rule:
@@ -325,8 +325,8 @@ def as_text(told: Told, image: str, limit: int, lines: Lines) -> Iterator[str]:
             if one.line.column:
                 yield " " + "".join("\t" if letter == "\t" else " "
                                     for letter in source[: one.line.column - 1]) + "^"
-        if one.position in told.shown:
-            yield f"{where}: note: {told.shown[one.position]}"
+        if one.position in told.observed:
+            yield f"{where}: note: {told.observed[one.position]}"
         if again:
             # Its way was told with another place.
             continue

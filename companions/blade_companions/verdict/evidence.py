@@ -139,8 +139,8 @@ class Evidence:
         """Says it of the causes whose ends are known."""
         bits = self.meeting.causes if self.meeting else [-1] * len(self.causes)
         for cause, bit in zip(self.causes, bits):
-            cause.shown = self.text(cause.reached, bit, cause.likely) if cause.reached else ""
-            if cause.shown:
+            cause.observed = self.text(cause.reached, bit, cause.likely) if cause.reached else ""
+            if cause.observed:
                 cause.likely = None
 
     def mark_problems(self, told: "Told", lines: Lines) -> None:
@@ -150,9 +150,9 @@ class Evidence:
             by_line.setdefault(key_of(lines.line(end.position), end.position), []).append(end)
         for one in told.problems:
             ends = by_line.get(key_of(one.line, one.position), [])
-            shown = self.text(ends, likely=one.likely)
-            if shown:
-                told.shown[one.position], one.likely = shown, None
+            text = self.text(ends, likely=one.likely)
+            if text:
+                told.observed[one.position], one.likely = text, None
             if told.witnessed is None and self.is_witnessed(ends):
                 told.witnessed = one.position
 

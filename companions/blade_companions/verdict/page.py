@@ -98,7 +98,7 @@ def cause_data(number: int, cause: Cause, lines: Lines) -> dict:
     return {
         "number": number, "ends": cause.ends, "kinds": kinds_text(cause.counts),
         "place": f"{cause.declared} {cause.place}".strip(), "source": cause.source, "loads": cause.loads,
-        "reason": cause.shown or str(cause.likely or ""), "ways": ways}
+        "reason": cause.observed or str(cause.likely or ""), "ways": ways}
 
 
 def protect_data(protect: Protect, lines: Lines) -> dict:

@@ -42,7 +42,7 @@ def as_json(told: Told, image: str, modules: Sequence[str]) -> str:
         "rule": one.rule.name, "message": problem_text(one), "place": line_object(one.line),
         "function": one.function, "position": one.position,
         "instruction": one.instruction, "module": one.module, "offset": one.offset, "ends": one.ends,
-        "likely": one.likely._asdict() if one.likely else None, "shown": told.shown.get(one.position),
+        "likely": one.likely._asdict() if one.likely else None, "shown": told.observed.get(one.position),
         "witnessed": one.position == told.witnessed,
         "way": [{"place": line_object(step.line), "position": step.position, "function": step.function,
                  "message": step.message} for step in one.steps],

@@ -99,13 +99,13 @@ def user_of(way: Way, lines: Lines) -> int:
     return next((site for site in reversed(way.sites) if lines.is_plain(site)), end)
 
 
-def way_text(way: Way, more: int, lines: Lines, shown: str) -> Iterator[str]:
+def way_text(way: Way, more: int, lines: Lines, above: str) -> Iterator[str]:
     end, user = way.end.position, user_of(way, lines)
     where = place_text(lines, end)
     called = f", called at {lines.place(user)}" if user != end else ""
     yield f"   -> {way.end.kind}: {where}{called}" + (f", and {more} more there" if more else "")
     source = lines.source(lines.line(user))
-    if source and source != shown:
+    if source and source != above:
         yield f"       {source}"
     yield f"       by {steps_of(way, lines)}"
 
@@ -118,8 +118,8 @@ def cause_text(number: int, cause: Cause, ways: int, lines: Lines) -> Iterator[s
            f"{kinds_text(cause.counts)}")
     if cause.source:
         yield f"       {cause.source}"
-    if cause.shown or cause.likely:
-        yield f"       {cause.shown or cause.likely}"
+    if cause.observed or cause.likely:
+        yield f"       {cause.observed or cause.likely}"
     told = by_line(cause, lines)
     for same in told[:ways]:
         yield from way_text(cause.way(same[0]), len(same) - 1, lines, cause.source)
@@ -135,15 +135,15 @@ def by_line(cause: Cause, lines: Lines) -> List[List[End]]:
     return list(told.values())
 
 
-def protects_text(protects: Sequence[Protect], found: Findings, lines: Lines, shown: int) -> Iterator[str]:
+def protects_text(protects: Sequence[Protect], found: Findings, lines: Lines, most: int) -> Iterator[str]:
     if not protects:
         yield "protects: none"
         return
     yield f"protects: {len(protects)}, of weight {sum(protect.weight for protect in protects)}"
-    for protect in sorted(protects, key=lambda one: (-one.weight, one.position))[:shown]:
+    for protect in sorted(protects, key=lambda one: (-one.weight, one.position))[:most]:
         yield protect_text(protect, found, lines)
-    if len(protects) > shown:
-        yield f"  and {len(protects) - shown} lighter ones"
+    if len(protects) > most:
+        yield f"  and {len(protects) - most} lighter ones"
     sums = totals(list(protects), found.image, lines)
     yield "  by function: " + "; ".join(f"{name} {count}, weight {weight}" for name, count,
                                         weight in sums[:20])

@@ -41,7 +41,7 @@ class Tried(NamedTuple):
     trace: str = ""
     paths: Sequence[Tuple[int, int]] = ()
     cut: bool = False
-    shown: str = ""
+    differs: str = ""
 
 
 @dataclass
@@ -131,9 +131,9 @@ class Sought:
         other ways than the first run's."""
         first = self.program.run(self.text(one.first))
         for count, other in enumerate(one.others, 1):
-            shown = self.run_differs(first, self.program.run(self.text(other)))
-            if shown:
-                return Tried(count, other, shown=shown)
+            differs = self.run_differs(first, self.program.run(self.text(other)))
+            if differs:
+                return Tried(count, other, differs=differs)
         return Tried(len(one.others))
 
     def run_differs(self, first: Outcome, second: Outcome) -> str:

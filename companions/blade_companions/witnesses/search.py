@@ -150,7 +150,7 @@ class Searched:
 
     done: Done
     found: Optional[Tuple[Attempt, Tried]] = None
-    shown: Optional[Tuple[Attempt, Tried]] = None
+    whole_runs: Optional[Tuple[Attempt, Tried]] = None
 
 
 def search(sought: Sought, seconds: float) -> Searched:
@@ -165,8 +165,8 @@ def search(sought: Sought, seconds: float) -> Searched:
             for attempt, tried in made:
                 done.add(attempt, tried)
                 progress.tell()
-                if tried.shown:
-                    searched.shown = (attempt, tried)
+                if tried.differs:
+                    searched.whole_runs = (attempt, tried)
                 elif tried.other is not None:
                     searched.found = (attempt, tried)
                     break

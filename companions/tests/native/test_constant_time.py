@@ -21,11 +21,11 @@ def memchecked(
     compiler: str,
     level: str,
     more: Sequence[str] = (),
-    shown: Result = Result(),
+    result: Result = Result(),
 ) -> Tuple[int, str]:
     """Memcheck's status, and the bytes that the program printed."""
     module = module_of(data)
-    done = memcheck(module, export_named(module, export), start, compiler, level, more, shown)
+    done = memcheck(module, export_named(module, export), start, compiler, level, more, result)
     return done.returncode, "".join(done.stdout.splitlines()[1:])
 
 
