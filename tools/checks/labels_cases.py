@@ -823,7 +823,8 @@ CASES = [
     Case("marked-branch-O1", NO, {
         "a.c": HEAD + (
             "volatile unsigned v;\n"
-            "unsigned g(unsigned i) { if (BLADE_SECRET(i) > 5) v = 1; else v = v + 2; return 0; }\n")}, command="blade-cc -O1 a.c -o out/"),
+            "unsigned g(unsigned i) { if (BLADE_SECRET(i) > 5) v = 1; else v = v + 2; return 0; }\n")},
+         command="blade-cc -O1 a.c -o out/"),
     Case("marked-char-O0", NO, {
         "a.c": HEAD + TABLE + MEMORY + (
             "unsigned g(unsigned i) { unsigned char k = BLADE_SECRET((unsigned char)i); return "
