@@ -16,6 +16,8 @@ WORDS are clang's and, behind -Wl, wasm-ld's. Besides:
     --start [EXPORT=]START   after a no, looks for two runs from a start file that show the leak, for ten
                              seconds (blade-witness)
     --public-callers=F,..    calls inside of the module may give public values for secret parameters of F
+    --no-assumptions         clang assumes nothing of C, as in units with BLADE_SECRET: for -c of other units
+                             beside such
     --unlabelled             nothing is declared secret, and that is meant
     --native                 also writes OUT/native/ (NAME.blade/native/): NAME.c, NAME.h and NAME.o for this
                              machine, if the verdict is yes (blade-native)

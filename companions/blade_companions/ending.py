@@ -3,8 +3,10 @@
 from __future__ import annotations
 
 import os
+import signal
 import sys
-from typing import Callable, Optional
+import threading
+from typing import Any, Callable, Optional
 
 from .formats.reading import Bad
 from .printing import say
@@ -55,16 +57,26 @@ def status_of(name: str, work: Callable[[], Optional[int]], unread: int) -> int:
     return unread
 
 
+def interrupts(handler: Any) -> None:
+    """Sets what SIGINT does. Only a program's own thread may."""
+    if threading.current_thread() is threading.main_thread():
+        signal.signal(signal.SIGINT, handler)
+
+
 def ended(name: str, work: Callable[[], Optional[int]], unread: int = UNREAD, closed: int = DONE) -> int:
     """The status that work comes to. A file that isn't as it should be is told in one line, with a status of
     its own; so is a pipe that is closed, which is no fault unless it is said so."""
     for stream in (sys.stdout, sys.stderr):
         if hasattr(stream, "reconfigure"):
             stream.reconfigure(errors="backslashreplace")
+    before = signal.getsignal(signal.SIGINT)
     try:
+        interrupts(signal.default_int_handler)
         return status_of(name, work, unread)
     except BrokenPipeError:
         leave(1, 2)
         return closed
     except KeyboardInterrupt:
         return INTERRUPTED
+    finally:
+        interrupts(before)

@@ -128,7 +128,10 @@ def functions_of(image: Image, paths: Sequence[str]) -> Tuple[List[LinkedFunctio
     """The functions of modules, where they are those of the image, and else why not."""
     if not paths:
         return [], []
-    functions = lower([read_module(path) for path in paths])
+    modules = [read_module(path) for path in paths]
+    for module in modules:
+        declared(module)  # too many lines are refused before anything is made of the module
+    functions = lower(modules)
     differ = compare.positions_differ(image, functions)
     return ([] if differ else functions), differ
 

@@ -14,11 +14,14 @@
    is no macro for a variable of C: it stands in C's memory, which has one label as a whole.
 
    BLADE_SECRET is y ^ mask, with a mask that is 0: a global of the module whose first value is secret. y itself stays public, where it comes from and
-   where it goes to without the macro, and so is a marked value that the code then compares with y and assumes to be the same (__builtin_assume,
-   __builtin_unreachable). All values that are marked share two masks, one up to 32 bits and one above. A pointer can't be marked, nor can what has more
+   where it goes to without the macro. In a unit with the macro the compiler may assume nothing (blade-cc --no-assumptions): else it could take the
+   marked value for y where the code says that both are the same. All values that are marked share two masks, one up to 32 bits and one above. A pointer can't be marked, nor can what has more
    than 64 bits: mark its parts. clang's -flto doesn't take it. */
 #ifndef BLADE_H
 #define BLADE_H
+#if defined(BLADE_CC) && !defined(__wasm__) && !defined(BLADE_OFF)
+#error "blade.h: __wasm__ isn't defined, so nothing would be declared secret (for that: BLADE_OFF)"
+#endif
 #if defined(__wasm__) && !defined(BLADE_OFF)
 #define BLADE_TEXT_(x) #x
 #define BLADE_SPELLED_(x) BLADE_TEXT_(x)
@@ -36,8 +39,9 @@
                                                                            "\t" __BASE_FILE__))); \
     _Pragma("clang diagnostic pop")
 #define BLADE_FUNCTION_(function, kind, name, which) BLADE_KEPT_(function, kind, name, which) BLADE_DECLARE_(kind, name, which)
+/* A parameter's name that is a macro as well stays that name: its value may be another parameter's number. */
 #define BLADE_SECRET_PARAM(function, parameter) \
-    BLADE_FUNCTION_(function, "secret-param", BLADE_SPELLED_(function), BLADE_SPELLED_(parameter))
+    BLADE_FUNCTION_(function, "secret-param", BLADE_SPELLED_(function), #parameter)
 #define BLADE_PUBLIC_RESULT(function) BLADE_FUNCTION_(function, "public-result", BLADE_SPELLED_(function), "0")
 #define BLADE_SECRET_MEMORY BLADE_DECLARE_("secret-memory", "0", "-")
 /* Masks that are 0, in globals of the module whose first values are secret. What is read of a volatile variable isn't known to any compiler. */

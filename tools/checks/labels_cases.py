@@ -37,6 +37,7 @@ ORDER = (Answer(5, "don't agree which parameter is key"),)
 WRAPPED = (Answer(5, "in place of f (--wrap)"),)
 NAMELESS = (Answer(5, "no function is called f(unsigned_int)"),)
 LINKER = (Answer(3, "wasm-ld"),)  # the linker refuses an option or a file
+STRICT = (Answer(5, "give --no-assumptions to blade-cc -c there, too"),)  # a unit beside marked values
 CHANGED = (Answer(3, "isn't what its labels were made for"),)
 HEAD = '#include "blade.h"\n'
 TABLE = "static const unsigned char table[256] = {3, 14, 9, 7, 12, 5, 10, 1, 15, 6, 11, 2, 13, 8, 4};\n"
@@ -834,7 +835,7 @@ CASES = [
         "a.cc": HEAD + TABLE + (
             "extern \"C\" unsigned g(unsigned long long i) { return 1000 / "
             "((unsigned)BLADE_SECRET(i) | 1); }\n")}, command="blade-cc a.cc -o out/"),
-    Case("marked-in-one-of-two-units", NO, {
+    Case("marked-in-one-of-two-units", STRICT, {
         "a.h": HEAD + "unsigned f(unsigned k);\n",
         "a.c": "#include \"a.h\"\n" + TABLE + "unsigned f(unsigned k) { return table[k & 255]; }\n",
         "b.c": (

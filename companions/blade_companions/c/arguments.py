@@ -22,6 +22,10 @@ OTHER_MACHINE = {
     "-mtail-call": "tail calls", "-mexception-handling": "exceptions", "-mnontrapping-fptoint": "floats",
     "-mmultimemory": "several memories", "-m64": "64-bit addresses"}
 
+# Words of clang and LLVM by which a labelled function may lose what keeps it, or another one is called.
+FORBIDDEN = re.compile(r"-force-(?:remove-)?attribute\b|-forceattrs-csv-path\b|-fopenmp|-fplugin=|"
+                       r"-fpass-plugin=|-load$|-load-pass-plugin\b")
+
 
 class Stop(Exception):
     """The work ends: a status, and what is said."""
@@ -54,6 +58,7 @@ class Asked:
     alone: bool = False
     verbose: bool = False
     unlabelled: bool = False
+    no_assumptions: bool = False  # the compiler may assume nothing, as in units with BLADE_SECRET
     native: bool = False
     no_fail: bool = False
 
@@ -93,7 +98,8 @@ def setters(asked: Asked) -> Dict[str, Callable[[str], None]]:
 
 SWITCHES: Dict[str, Tuple[str, object]] = {
     "--ledger": ("way", "ledger"), "--vault": ("way", "vault"), "--unlabelled": ("unlabelled", True),
-    "--no-fail": ("no_fail", True), "--native": ("native", True), "-v": ("verbose", True)}
+    "--no-fail": ("no_fail", True), "--no-assumptions": ("no_assumptions", True),
+    "--native": ("native", True), "-v": ("verbose", True)}
 
 
 def asked_by(words: Sequence[str]) -> Asked:
@@ -117,6 +123,7 @@ def asked_by(words: Sequence[str]) -> Asked:
             setattr(asked, *SWITCHES[word])
         else:
             plain(asked, word)
+    refuse_forbidden(asked.flags + asked.links)
     return asked
 
 
@@ -139,6 +146,13 @@ def plain(asked: Asked, word: str) -> None:
     else:
         raise Stop(USAGE, f"blade-cc: error: {word}: neither a source ({' '.join(SOURCES)}) "
                    f"nor an object ({' '.join(OBJECTS)})")
+
+
+def refuse_forbidden(words: Sequence[str]) -> None:
+    for word in words:
+        if FORBIDDEN.match(word.replace("--", "-", 1)):
+            raise Stop(USAGE, f"blade-cc: error: {word}: with it a labelled function may lose "
+                       "what keeps its label; leave it out")
 
 
 def refuse_machine(word: str) -> None:

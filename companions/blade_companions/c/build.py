@@ -55,18 +55,19 @@ class Builder:
         if out and len(sources) != 1:
             raise Stop(USAGE, "blade-cc: error: -o with several sources, where nothing is linked")
         with tempfile.TemporaryDirectory(prefix="blade-") as folder:
-            for source in sources:
-                ending = ".o" if last == "-c" else ".s"
-                self.compiler.compile(source, out or os.path.splitext(os.path.basename(source))[0] + ending,
-                                      folder, last)
+            ending = ".o" if last == "-c" else ".s"
+            names = [out or os.path.splitext(os.path.basename(source))[0] + ending for source in sources]
+            for number, pair in enumerate(zip(sources, names)):
+                os.mkdir(f"{folder}/{number}")
+                self.compiler.compile([pair], f"{folder}/{number}", last)
         return 0
 
     def objects(self) -> List[str]:
         """The objects of the sources, and those that were given."""
-        made = []
-        for number, source in enumerate(self.asked.sources):
-            made.append(f"{self.folder}/{number}-{os.path.splitext(os.path.basename(source))[0]}.o")
-            self.compiler.compile(source, made[-1], self.folder)
+        sources = self.asked.sources
+        made = [f"{self.folder}/{number}-{os.path.splitext(os.path.basename(source))[0]}.o" for number, source
+                in enumerate(sources)]
+        self.compiler.compile(list(zip(sources, made)), self.folder)
         return made + self.asked.objects
 
     def library(self, missing: Set[str]) -> List[str]:

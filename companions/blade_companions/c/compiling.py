@@ -6,13 +6,13 @@ import os
 import re
 import shlex
 import sys
-from typing import List, Sequence, Set
+from typing import List, Sequence, Set, Tuple
 
 from ..formats.reading import Bad
 from ..printing import printable
 from ..writing import write_file as written_to
 from .arguments import BUILD, LABELS, USAGE, Asked, Stop
-from .opaque import BY_WORDS, Unit, opaque
+from .opaque import BY_WORDS, MARK, Unit, opaque
 from .prototypes import differing
 from .refusals import about_headers
 from .tools import HERE, INCLUDE, Runner, found
@@ -46,26 +46,37 @@ class Compiler:
             words.append("-O2")
         if asked.way:
             words.append(f"-D{asked.way.upper()}")
-        headers = ["-isystem", INCLUDE, "-isystem", os.path.join(INCLUDE, "freestanding")]
+        headers = ["-isystem", INCLUDE, "-DBLADE_CC", "-isystem", os.path.join(INCLUDE, "freestanding")]
         if os.path.isdir(WASI_HEADERS):
             # Its headers ask for the macro.
             headers += ["-isystem", WASI_HEADERS, "-D__wasi__"]
         return words + headers + asked.flags
 
-    def compile(self, source: str, to: str, folder: str, last: str = "-c") -> None:
-        """Makes the object of a source, with what stands between in a folder."""
-        refuse_path(source)
-        if source.endswith(ASSEMBLER):
-            self.run([*self.words(source), last, "-o", to, source])
-            return
-        base = f"{folder}/{os.path.splitext(os.path.basename(to))[0]}"
-        text = self.before(source, to, f"{base}.ll")
+    def compile(self, pairs: Sequence[Tuple[str, str]], folder: str, last: str = "-c") -> None:
+        """Makes the objects of sources, with what stands between in a folder. Where one has marked values the
+        compiler may assume nothing in any."""
+        texts = []
+        for source, to in pairs:
+            refuse_path(source)
+            texts.append("" if source.endswith(ASSEMBLER) else self.before(source, to, between(to, folder)))
+        if any(MARK in text for text in texts):
+            self.asked.no_assumptions = True
+        for (source, to), text in zip(pairs, texts):
+            if source.endswith(ASSEMBLER):
+                self.run([*self.words(source), last, "-o", to, source])
+            else:
+                self.behind(source, to, text, between(to, folder), last)
+
+    def behind(self, source: str, to: str, text: str, first: str, last: str) -> None:
+        """What labels need in a source's text, and its object."""
+        base = first[: -len(".ll")]
         later = any(flag.startswith(("-flto", "-emit-llvm")) for flag in self.asked.flags)
         words = [os.path.join(HERE, "blade-cc"), "--keep-labelled", f"{base}.ll", source]
+        words += ["-flto"] * later + ["--no-assumptions"] * self.asked.no_assumptions
         labels = [word for label in self.labels() for word in ("--label", label)]
-        self.runner.show([*words, *(["-flto"] if later else []), *labels], f"{base}.kept.ll")
-        written_to(f"{base}.kept.ll",
-                   kept(text, source, self.asked.labels, later).encode("utf-8", "surrogateescape"))
+        self.runner.show([*words, *labels], f"{base}.kept.ll")
+        made = kept(text, source, self.asked.labels, later, self.asked.no_assumptions)
+        written_to(f"{base}.kept.ll", made.encode("utf-8", "surrogateescape"))
         self.run([*self.words_behind(source), last, "-o", to, f"{base}.kept.ll"])
 
     def labels(self) -> List[str]:
@@ -139,6 +150,11 @@ class Compiler:
             raise Stop(BUILD, *about_headers(done.errors))
 
 
+def between(to: str, folder: str) -> str:
+    """Where LLVM's text of an object's source stands."""
+    return f"{folder}/{os.path.splitext(os.path.basename(to))[0]}.ll"
+
+
 def refuse_path(source: str) -> None:
     """A path stands in lines of assembler, which read some letters otherwise."""
     if not source.isprintable() or "\\" in source or '"' in source:
@@ -159,21 +175,21 @@ def unit_of(text: str, source: str, labels: Sequence[str]) -> Unit:
         raise Stop(LABELS, f"blade-cc: error: {source}: {bad} [blade-label]") from None
 
 
-def kept(text: str, source: str, labels: Sequence[str], is_linked_later: bool) -> str:
+def kept(text: str, source: str, labels: Sequence[str], is_linked_later: bool, is_strict: bool) -> str:
     try:
-        return opaque(text, os.path.abspath(source), labels, is_linked_later)
+        return opaque(text, os.path.abspath(source), labels, is_linked_later, is_strict)
     except Bad as bad:
         raise Stop(LABELS, f"{source}: error: {bad} [blade-label]") from None
 
 
 def keep_labelled(words: Sequence[str]) -> int:
     """The middle step by itself, to the standard output: blade-cc --keep-labelled FILE.ll SOURCE [-flto]
-    [--label WORDS]."""
+    [--no-assumptions] [--label WORDS]."""
     rest, labels = list(words), []
     while "--label" in rest:
         at = rest.index("--label")
         labels += shlex.split(rest[at + 1])
         del rest[at : at + 2]
-    text = kept(read(rest[0]), rest[1], labels, "-flto" in rest)
-    sys.stdout.buffer.write(text.encode("utf-8", "surrogateescape"))
+    made = kept(read(rest[0]), rest[1], labels, "-flto" in rest, "--no-assumptions" in rest)
+    sys.stdout.buffer.write(made.encode("utf-8", "surrogateescape"))
     return 0

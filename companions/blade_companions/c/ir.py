@@ -13,6 +13,7 @@ from ..formats.reading import Bad
 SYMBOL = r'@(?:"[^"]*"|[-\w.$]+)'
 DEFINED = re.compile(rf"define (.*?)({SYMBOL})\(")
 MENTION = re.compile(SYMBOL)
+PROMOTED = re.compile(r'\s+%([-\w.$]+) = trunc i32 %(\d+) to i(?:8|16)\b')
 NODE = re.compile(r"(!\d+) = (?:distinct )?!(DISubprogram|DILocalVariable|DIFile)\((.*)\)$")
 LOCAL_LINKAGE = frozenset(["internal", "private"])
 INLINE_LINKAGE = frozenset(["linkonce", "linkonce_odr", "available_externally", "weak_odr"])
@@ -128,6 +129,14 @@ def param_of(text: str) -> Param:
     return Param(unescaped(name[1].strip('"')) if name else "", size_of(first_type(text)), text)
 
 
+def as_defined(params: Sequence[Param], body: Sequence[str]) -> List[Param]:
+    """Parameters of an old definition, as `f(k) char k;`, which gets an int and makes it what it declares."""
+    numbered = {param.name for param in params if param.name.isdigit()}
+    told = filter(None, map(PROMOTED.match, body)) if numbered else ()
+    names = {found[2]: found[1] for found in told if found[2] in numbered}
+    return [param._replace(name=names.get(param.name, param.name)) for param in params]
+
+
 def result_of(head: str) -> Tuple[str, str]:
     """The linkage and the type of the result, of what stands in front of a defined function's name."""
     words, linkage, at = head.strip(), "", 0
@@ -177,6 +186,7 @@ class Text:
         linkage, result = result_of(found[1])
         params = [param_of(one) for one in split_at_commas(inside(line, found.end() - 1))]
         end = self.lines.index("}", at)
+        params = as_defined(params, self.lines[at + 1 : end])
         symbol, debug = plain(found[2]), re.search(r"!dbg (!\d+)", line)
         told = self.values(debug[1]) if debug else {}
         file = self.values(told.get("file", ""))

@@ -9,9 +9,11 @@ from typing import Dict, Iterable, List, NamedTuple, Optional, Sequence, Set, Tu
 
 from ..formats.labels import KINDS
 from ..formats.reading import Bad
+from .assumptions import without_assumptions
 from .ir import INLINE_LINKAGE, Defined, Param, Text, is_symbol_of, mentions, size_of
 
 NAME = "blade.units"
+MARK = "@blade_secret_mask_"  # what BLADE_SECRET reads
 BY_WORDS = "--label"  # where the labels of words stand
 RETURN = re.compile(r'(\s+)ret (.+) (%[-\w.$"]+|-?\d+|true|false|null|undef|poison|@\S+?)((?:, !.*)?)$')
 # functions of these sorts may go from the object
@@ -77,8 +79,14 @@ class Unit:
         lines = [named for named in map(of_line, told) if named]
         self.others += [word for line in told if of_line(line) is None for word in line.split("\t")[:2]]
         self.known = lines + of_words(words)
+        for _, line in self.text.annotated():
+            if line not in told:
+                raise Bad(f"what blade.h writes for {line.split(chr(9))[1]} isn't in the unit's text: "
+                          "is __asm__ a macro?")
         self.labels = [label for named in self.known for label in self.found(named)]
         self.functions = {label.function.symbol: label.function for label in self.labels}
+        self.has_marks = any(MARK in line for one in self.text.defined
+                             for line in self.text.lines[one.start : one.end])
 
     def found(self, named: Named) -> List[Label]:
         """The label at each function that it names here: for a macro the one that clang has noted, for words
@@ -168,8 +176,9 @@ def count_of(one: Defined) -> str:
 class Opaque:
     """Writes a unit's text in which nothing looks through its labelled functions."""
 
-    def __init__(self, unit: Unit, is_linked_later: bool) -> None:
+    def __init__(self, unit: Unit, is_linked_later: bool, is_strict: bool) -> None:
         self.unit, self.text, self.lines = unit, unit.text, list(unit.text.lines)
+        self.is_strict = is_strict or unit.has_marks  # whether the compiler may assume nothing
         counts: Dict[str, int] = {}
         for one in mentions([line for line in self.lines
                              if not line.startswith(("define ", "@llvm.global.annotations "))]):
@@ -250,7 +259,9 @@ class Opaque:
         return f"i8* bitcast ({one.result} ({kinds})* {symbol} to i8*)"
 
     def written(self) -> str:
-        return "\n".join(self.lines + record(self.unit)) + "\n"
+        lines = [line for part in self.lines for line in part.split("\n")]
+        lines = without_assumptions(lines) if self.is_strict else lines
+        return "\n".join(lines + record(self.unit, self.is_strict)) + "\n"
 
 
 def hidden_use(param: Param, at: int) -> List[str]:
@@ -296,13 +307,12 @@ def place_in_code(symbol: str) -> str:
     return f'module asm ".int32 \\22{spelled(symbol.encode("utf-8", "surrogateescape"))}\\22"'
 
 
-def record(unit: Unit) -> List[str]:
+def record(unit: Unit, is_strict: bool) -> List[str]:
     """The unit's part of the section."""
     lines = [f'module asm ".section .custom_section.{NAME},\\22\\22,@"', row("unit", unit.path, os.getcwd())]
     lines += [row("sees", *named) for named in unit.known] + [row("words", *unit.others)] * bool(unit.others)
-    if any("@blade_secret_mask_" in line for one in unit.text.defined
-           for line in unit.text.lines[one.start : one.end]):
-        lines.append(row("marks"))
+    lines += [row("marks")] * unit.has_marks
+    lines += [row("strict")] * is_strict
     for one in unit.text.defined:
         sort = "local" if one.is_local else "inline" if one.linkage in INLINE_LINKAGE else "one"
         lines.append(row("has", one.symbol, one.name, one.place, sort, "kept" if one.symbol in unit.functions
@@ -344,6 +354,6 @@ def leading(symbol: str, named: Dict[str, Set[str]], local: Set[str]) -> Set[str
     return found - {symbol}
 
 
-def opaque(text: str, path: str, words: Sequence[str], is_linked_later: bool) -> str:
+def opaque(text: str, path: str, words: Sequence[str], is_linked_later: bool, is_strict: bool = False) -> str:
     """LLVM's text of a unit with all that labels need."""
-    return Opaque(Unit(text, path, words), is_linked_later).written()
+    return Opaque(Unit(text, path, words), is_linked_later, is_strict).written()

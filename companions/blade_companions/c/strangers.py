@@ -80,8 +80,9 @@ def of_inputs(linked: Module, inputs: Sequence[Tuple[Input, str]], names: Sequen
               known: Sequence[str]) -> List[str]:
     """What is wrong, given the labelled functions and those of them that clang has code of its own for."""
     known = sorted({*known, *(REPLACED & set(names))})
-    return [*copies(inputs, names, known), *unseen(linked, known),
-            *unmarked(linked, [one for one, _ in inputs])]
+    opened = [one for one, _ in inputs]
+    return [*copies(inputs, names, known), *unseen(linked, known), *unmarked(linked, opened),
+            *assumed(linked, opened)]
 
 
 def copies(inputs: Sequence[Tuple[Input, str]], names: Sequence[str], known: Sequence[str]) -> Iterator[str]:
@@ -122,3 +123,21 @@ def unmarked(linked: Module, inputs: Sequence[Input]) -> Iterator[str]:
                 yield (f"blade-cc: error: {shown(one.path)} uses BLADE_SECRET, "
                        "and the module doesn't have its masks by name: link without -s, and drop "
                        "what nothing uses [blade-label]")
+
+
+def assumed(linked: Module, inputs: Sequence[Input]) -> Iterator[str]:
+    """Code beside marked values that lets the compiler take one for the unmarked value."""
+    units = units_of(linked)
+    marked = next((unit.path for unit in units if unit.has_marks), "")
+    for one in inputs:
+        is_known = one.is_object and any(unit.has_marks for unit in units_within(one))
+        if MARK in one.data and not is_known:
+            yield (f"blade-cc: error: blade-cc didn't compile {shown(one.path)}, which uses BLADE_SECRET, "
+                   "so the compiler may have taken marked values for others: compile it by blade-cc -c "
+                   "[blade-label]")
+    for unit in units if marked else ():
+        if not unit.is_strict:
+            yield (f"blade-cc: error: {shown(marked)} uses BLADE_SECRET, and {shown(unit.path)} was compiled "
+                   "with what clang assumes of C (no null pointer is used, __builtin_unreachable, ..), by "
+                   "which it may take a marked value for the unmarked one: give --no-assumptions to blade-cc -c "
+                   "there, too [blade-label]")

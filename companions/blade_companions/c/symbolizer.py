@@ -16,7 +16,8 @@ from ..printing import called
 
 SYMBOLIZERS = ("llvm-symbolizer", *(f"llvm-symbolizer-{version}" for version in range(22, 13, -1)))
 SECONDS = 120  # so long it may take
-MEMORY = 4 << 30
+# The most bytes of data that it may have, and for each byte of the module.
+MEMORY, MEMORY_OF_BYTE = 24 << 20, 20
 LONGEST = 1 << 20  # the most bytes of an answer
 PATH = 4096  # and letters of a path
 SETTINGS = ("LLVM_SYMBOLIZER_OPTS", "DEBUGINFOD_URLS")  # other output, and servers that are asked
@@ -35,21 +36,22 @@ def symbolizer() -> Optional[str]:
     return next((tool for tool in SYMBOLIZERS if shutil.which(tool)), None)
 
 
-def bounded() -> None:
+def bounded(most: int) -> None:
     """A module's own tables may have the tool ask for all memory."""
-    given = [limit for limit in resource.getrlimit(resource.RLIMIT_AS) if limit != resource.RLIM_INFINITY]
-    resource.setrlimit(resource.RLIMIT_AS, (min(MEMORY, *given, MEMORY),) * 2)
+    given = [limit for limit in resource.getrlimit(resource.RLIMIT_DATA) if limit != resource.RLIM_INFINITY]
+    resource.setrlimit(resource.RLIMIT_DATA, (min(most, *given, most),) * 2)
 
 
 def frames_of(tool: str, path: str, places: Sequence[int]) -> Iterator[Tuple[int, List[Frame]]]:
     """The frames of places, the inner ones first, as far as the tool answers what was asked."""
     words = [tool, f"--obj={path}", "--functions=short", "--output-style=JSON"]
+    most = MEMORY + MEMORY_OF_BYTE * os.path.getsize(path)
     setting = {name: value for name, value in os.environ.items() if name not in SETTINGS}
     with tempfile.TemporaryFile() as asked:
         asked.write("".join(f"{place:#x}\n" for place in places).encode())
         asked.seek(0)
         with subprocess.Popen(words, stdin=asked, stdout=subprocess.PIPE, stderr=subprocess.DEVNULL,
-                              env=setting, preexec_fn=bounded) as running:
+                              env=setting, preexec_fn=lambda: bounded(most)) as running:
             watch = threading.Timer(SECONDS, running.kill)
             watch.start()
             try:

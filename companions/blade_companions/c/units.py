@@ -51,6 +51,7 @@ class Unit:
     sees: List[Named] = field(default_factory=list)
     words: List[str] = field(default_factory=list)  # those of --label that name no function
     has_marks: bool = False  # whether it uses BLADE_SECRET
+    is_strict: bool = False  # whether the compiler could assume nothing
     has: List[Has] = field(default_factory=list)
     labels: List[Label] = field(default_factory=list)
     # a labelled function, and the place in the code of one that leads to it
@@ -89,6 +90,8 @@ def read_row(reader: Reader, found: List[Unit]) -> None:
             found[-1].sees.append(Named(*parts))
         elif kind == "marks":
             found[-1].has_marks = True
+        elif kind == "strict":
+            found[-1].is_strict = True
         elif kind == "words":
             found[-1].words += parts
         elif kind == "has":
