@@ -9,7 +9,7 @@ TRAP = "declare void @llvm.trap()"
 UNREACHABLE = re.compile(r"(\s+)unreachable((?:, !.*)?)$")
 ASSUME = re.compile(r"\s+(?:\w+ )?call void @llvm\.assume\(")
 # Words that say what a parameter, a result or a function is not.
-WORD = re.compile(r"(?<![%@\w.$-])(?:(?:dereferenceable|dereferenceable_or_null|range)\([^()]*\)|"
+WORD = re.compile(r"(?<![%@!\w.$-])(?:(?:dereferenceable|dereferenceable_or_null|range)\([^()]*\)|"
                   r"(?:nonnull|noundef|noalias|mustprogress|willreturn)(?![\w.$(:-]))[ ]?")
 TOLD = re.compile(r", !(?:nonnull|noundef|range|align|dereferenceable|dereferenceable_or_null|tbaa|"
                   r"tbaa\.struct|noalias|alias\.scope|invariant\.load|invariant\.group) !\d+")
@@ -26,7 +26,7 @@ def said(line: str) -> str:
         return line.replace(ENDLESS, '!"blade.loop"')
     if not line.startswith(("define ", "declare ", "attributes ", " ")):
         return line
-    line = outside_of_quotes(line, lambda part: TOLD.sub("", WORD.sub("", part)))
+    line = outside_of_quotes(line, lambda part: WORD.sub("", TOLD.sub("", part)))
     if line.startswith("define ") and line.endswith("{"):
         # Without it what is done with a null pointer may be taken not to happen.
         line = re.sub(r"(?= #\d+[^()]*\{$)", " null_pointer_is_valid", line, count=1)

@@ -139,5 +139,5 @@ def assumed(linked: Module, inputs: Sequence[Input]) -> Iterator[str]:
         if not unit.is_strict:
             yield (f"blade-cc: error: {shown(marked)} uses BLADE_SECRET, and {shown(unit.path)} was compiled "
                    "with what clang assumes of C (no null pointer is used, __builtin_unreachable, ..), by "
-                   "which it may take a marked value for the unmarked one: give --no-assumptions to blade-cc -c "
-                   "there, too [blade-label]")
+                   "which it may take a marked value for the unmarked one: give --no-assumptions to "
+                   "blade-cc -c there, too [blade-label]")
