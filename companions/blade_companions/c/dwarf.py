@@ -17,7 +17,7 @@ WANTED = frozenset([NAME, LOW_PC, LINKAGE, ORIGIN, SPECIFICATION, LOCATION, LINE
                     FOLDER, STR_BASE, ADDR_BASE, TYPE])
 # The most entries, attributes and letters of strings, beside as many as the bytes of the file allow: a small
 # file could name much more.
-ENTRIES, BYTES_OF_ENTRY, WORK, WORK_OF_BYTE = 100_000, 20, 500_000, 2
+ENTRIES, BYTES_OF_ENTRY, WORK, WORK_OF_BYTE = 50_000, 20, 500_000, 2
 GONE = 0xFFFFFFF0  # the linker's addresses of what it dropped are above
 FIXED = {0x01: 4, 0x0B: 1, 0x05: 2, 0x06: 4, 0x07: 8, 0x0C: 1, 0x11: 1, 0x12: 2, 0x13: 4, 0x14: 8, 0x17: 4,
          0x1E: 16, 0x20: 8, 0x25: 1, 0x26: 2, 0x27: 3, 0x28: 4, 0x29: 1, 0x2A: 2, 0x2B: 3, 0x2C: 4}
