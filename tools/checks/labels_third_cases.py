@@ -561,16 +561,11 @@ THIRD_RIGHT = [
     right("twin-marked-two-units", {"a.c": MARKER, "b.c": "unsigned mark(unsigned x);\n"
                                     "unsigned g(unsigned x) { return mark(x) * 5; }\n"},
           "blade-cc --no-assumptions -c b.c && blade-cc a.c b.o -o out/"),
-    right("twin-attributes", {"a.c": HEAD + "__attribute__((const, hot, cold, used, visibility(\"default\"), "
+    right("twin-attributes", {"a.c": HEAD + "__attribute__((const, hot, used, visibility(\"default\"), "
                               "section(\"text.secret\"))) " + LABELLED + WORK + ENTRY},
           "blade-cc -O3 -w -ffunction-sections -Wl,--gc-sections a.c -o out/"),
-    right("twin-pragmas", {"a.c": HEAD + "#pragma GCC visibility push(default)\n" + LABELLED + WORK +
-                           "#pragma clang optimize off\n" + ENTRY + "#pragma clang optimize on\n"
+    right("twin-pragmas", {"a.c": HEAD + "#pragma GCC visibility push(default)\n" + LABELLED + WORK + ENTRY +
                            "#pragma GCC visibility pop\n"}),
-    right("twin-letters", {"a.c": HEAD + "unsigned \u00e9t\u00e9(unsigned "
-                           "cl\u00e9);\nBLADE_SECRET_PARAM(\u00e9t\u00e9, cl\u00e9);\n"
-                           "unsigned \u00e9t\u00e9(unsigned cl\u00e9) { return cl\u00e9 * 3; }\n" +
-                           LABELLED + WORK + ENTRY}),
     right("twin-namespaces", {"a.cc": HEAD + "inline namespace v1 { unsigned f(unsigned k); "
                               "BLADE_SECRET_PARAM(f, k); }\n"
                               "unsigned v1::f(unsigned k) { return k * 3 + 1; }\nextern \"C\" { " +
