@@ -21,8 +21,9 @@ WORDS are clang's and, behind -Wl, wasm-ld's. Besides:
     --unlabelled             nothing is declared secret, and that is meant
     --native                 also writes OUT/native/ (NAME.blade/native/): NAME.c, NAME.h and NAME.o for this
                              machine, if the verdict is yes (blade-native)
-    --no-fail                status 0 where the verdict is no, and what is made is kept all the same
-    --limit N                at most so many warnings (20)
+    --no-fail                if the verdict is no, the status is 0 all the same, what is made is kept, and
+                             violations are warnings, not errors
+    --limit N                prints at most N violations (20)
     --name NAME              the module's name (that of OUT.wasm, or of the only file)
     --blade PROGRAM          the program (BLADE, else the one of this repository or release, else blade)
     -v                       shows each command, as it could be typed
@@ -30,24 +31,25 @@ WORDS are clang's and, behind -Wl, wasm-ld's. Besides:
 OUT is a file where it has an ending, or where nothing but objects is given; a folder by a / at its end, or
 else. Where the verdict is no, what is made stands in OUT/refused/ alone, and the folder is marked as old, so
 that make doesn't take it for made.
-Status: 0 constant-time; 1 not; 2 usage; 3 clang or the linker failed; 4 a tool is missing or too old; 5 the
-labels aren't right, or there are none; 6 blade refuses the module, or a run for --counts fails; 7 two tools
-don't agree."""
+Status: 0 constant-time; 1 not; 2 usage; 3 clang, the linker or blade refuses the files, or a run for --counts
+fails; 4 gave up: a tool is missing or too old, or two tools don't agree; 5 a label isn't right or was lost,
+or there is none."""
 from __future__ import annotations
 
 import fcntl
 import os
 import shlex
+import subprocess
 import sys
 import tempfile
 from collections import Counter
 from typing import Dict, List, Optional, Sequence, Tuple
 
 from .verdict import compare, diagnostics, sarif, text
-from .c.arguments import BUILD, DISAGREE, LABELS, NO, REFUSED, USAGE, YES, Asked, Stop, asked_by
+from .c.arguments import BUILD, DISAGREE, LABELS, REFUSED, Asked, Stop, asked_by
 from .c.build import Builder
 from .verdict.causes import causes_of
-from .ending import ended
+from .ending import ended, is_answered
 from .verdict.flow import find
 from .witnesses.hunting import after_no, summary
 from .formats.image import read_image
@@ -66,6 +68,8 @@ from .c.sources import Sources
 from .c.tools import HERE, INCLUDE, Ran, Runner, found, program, written_to
 from .formats.module import FUNCTION, Module, module_of, read_module
 from .printing import say
+from .programs import version
+from .statuses import NO, USAGE, YES
 
 STEPS = "4000000000"  # the most of a run that is counted
 MADE = ("wasm", "img", "json")  # of the module: what blade-cc makes where the verdict is yes
@@ -311,6 +315,7 @@ class Driver:
         evidence = None
         if self.asked.start and not is_yes:
             evidence, self.explained_by = after_no(self, told, lines, modules, f"{place}/{self.module}")
+        told.level = diagnostics.WARNING if self.asked.no_fail else diagnostics.ERROR
         self.tell(told, lines, modules, f"{place}/{self.module}")
         if self.asked.native and is_yes:
             self.make_native(f"{place}/{self.module}", modules)
@@ -354,10 +359,10 @@ class Driver:
         self.runner.show([os.path.join(HERE, "blade-explain"), f"{made}.img", *modules, "--certificate",
                           f"{made}.json", "--report",
                           f"{self.folder}/build/report.txt", "--lines", "--json", problems, "--sarif", log,
-                          *self.explained_by])
+                          *(["--errors"] * (not self.asked.no_fail)), *self.explained_by])
         self.put(os.path.basename(problems), sarif.as_json(told, f"{made}.img", modules).encode())
         self.put(os.path.basename(log),
-                 sarif.as_sarif(told, f"{made}.img", modules, lines, os.getcwd(), sarif.version()).encode())
+                 sarif.as_sarif(told, f"{made}.img", modules, lines, os.getcwd(), version()).encode())
         for line in diagnostics.as_text(told, shown(f"{made}.img"), self.asked.limit, lines):
             say(line, sys.stderr)
 
@@ -414,13 +419,25 @@ def write_errors(driver: Optional[Driver], stop: Stop) -> None:
     """A log of errors for editors, where the work ended before the places were told."""
     if driver and stop.lines and os.path.isdir(driver.folder):
         written_to(f"{driver.folder}/{driver.module}.sarif",
-                   sarif.errors_as_sarif(stop.lines, os.getcwd(), sarif.version()).encode())
+                   sarif.errors_as_sarif(stop.lines, os.getcwd(), version()).encode())
+
+
+def clang_version() -> int:
+    """clang's own answer behind that of blade-cc: configure scripts look for it."""
+    sys.stdout.flush()
+    try:
+        subprocess.run([found("clang"), "--version"], stdin=subprocess.DEVNULL, check=False)
+    except Stop:
+        pass  # this question needs no clang
+    return YES
 
 
 def status_of(words: Sequence[str], usage: str) -> int:
-    if not words or words in (["--help"], ["-h"]):
-        print(usage, file=sys.stderr if not words else sys.stdout)
-        return USAGE if not words else YES
+    if is_answered("blade-cc", words, usage):
+        return clang_version() if list(words) == ["--version"] else YES
+    if not words:
+        print(usage, file=sys.stderr)
+        return USAGE
     if words[0] == "--keep-labelled":
         return keep_labelled(words[1:])
     driver, status = None, BUILD
@@ -444,7 +461,7 @@ def status_of(words: Sequence[str], usage: str) -> int:
 
 def main(words: Sequence[str]) -> int:
     # Where nobody reads on, a no still isn't a yes.
-    return ended("blade-cc: error", lambda: status_of(words, __doc__ or ""), BUILD, BUILD)
+    return ended("blade-cc: error", lambda: status_of(words, __doc__ or ""), BUILD)
 
 
 if __name__ == "__main__":

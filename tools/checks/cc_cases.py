@@ -29,11 +29,12 @@ def wide_switch() -> str:
 
 LEAKS = [
     Case("lookup", [], 1,
-         ["lookup.c:5:42: warning: a secret is part of the address of a load", "[blade-load]",
+         ["lookup.c:5:42: error: a secret is part of the address of a load", "[blade-load]",
                            "lookup.c:4: note: parameter index of lookup is declared secret"],
          HEAD + TABLE + "unsigned lookup(unsigned index);\nBLADE_SECRET_PARAM(lookup, index);\nunsigned "
          "lookup(unsigned index) { return table[index & 15]; }\n"),
-    Case("going", ["--no-fail"], 0, ["[blade-load]", "constant-time no"],
+    Case("going", ["--no-fail"], 0,
+         ["going.c:5:27: warning: a secret", "[blade-load]", "constant-time no"],
          HEAD + TABLE + "int going(int x);\nBLADE_SECRET_PARAM(going, x);\nint going(int x) { "
          "return table[x & 15]; }\n"),
     Case("branch", [], 1, ["branch.c:5:", "[blade-branch]"],
@@ -129,18 +130,18 @@ LABELS = [
          "int nobody(int x) { return x; }\n"),
 ]
 REFUSALS = [
-    Case("float", [], 6, ["float.c:4:", "an instruction of floats", "[blade-float]", "in scaled"],
+    Case("float", [], 3, ["float.c:4:", "an instruction of floats", "[blade-float]", "in scaled"],
          HEAD + "BLADE_SECRET_MEMORY;\nint scaled(int a) {\n    double x = a;\n    return "
          "(int)(x * 1.5);\n}\n"),
-    Case("switch", [], 6, ["switch.c:", "300 cases", "[blade-nesting]"], wide_switch()),
-    Case("bulk", [], 6, ["bulk.c:3:", "an operation on whole memories", "[blade-instruction]"],
+    Case("switch", [], 3, ["switch.c:", "300 cases", "[blade-nesting]"], wide_switch()),
+    Case("bulk", [], 3, ["bulk.c:3:", "an operation on whole memories", "[blade-instruction]"],
          HEAD + 'BLADE_SECRET_MEMORY;\n__attribute__((target("bulk-memory"))) void f(char *p, const char *q, '
          'unsigned long n) { __builtin_memcpy(p, q, n); }\n'),
-    Case("import", MEMORY, 6,
+    Case("import", MEMORY, 3,
          ["the function ask is imported from env, which no module gives", "[blade-import]"],
          '__attribute__((import_module("env"), import_name("ask"))) int ask(void);\nint '
          'f(void) { return ask(); }\n'),
-    Case("unledgered", MEMORY, 6, ["compile and link with --ledger", "[blade-import]"],
+    Case("unledgered", MEMORY, 3, ["compile and link with --ledger", "[blade-import]"],
          '__attribute__((import_module("ledger"), import_name("ld32"))) unsigned ld32(unsigned);\nunsigned '
          'f(unsigned *p) { return ld32((unsigned)p); }\n'),
     Case("pages", [*MEMORY, "--memory", "1"], 3, ["memory too small", "--memory PAGES"],

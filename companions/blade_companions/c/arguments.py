@@ -8,8 +8,12 @@ from dataclasses import dataclass, field
 from typing import Callable, Dict, List, Optional, Sequence, Tuple
 
 from ..formats.reading import read_file
+from ..statuses import GAVE_UP, INPUT, LOST, USAGE
 
-YES, NO, USAGE, BUILD, MISSING, LABELS, REFUSED, DISAGREE = range(8)
+# Names of the statuses here: clang, the linker or blade refuses the files, or there is no answer.
+BUILD = REFUSED = INPUT
+MISSING = DISAGREE = GAVE_UP
+LABELS = LOST
 SOURCES = (".c", ".cc", ".cpp", ".cxx", ".C", ".s", ".S", ".i")
 OBJECTS = (".o", ".a", ".obj", ".bc")
 # clang's words that have another one behind them.

@@ -8,7 +8,7 @@ from typing import Dict, List, Sequence, Tuple
 
 from . import encoding
 from .encoding import custom, leb, vector
-from .reading import Bad, Reader
+from .reading import Bad, LostLabel, Reader
 from .module import FUNCTION, GLOBAL, MEMORY, Module
 
 NAME = "blade.labels"
@@ -65,9 +65,9 @@ def is_changed(module: Module) -> bool:
 
 def refuse_changed(module: Module) -> None:
     if is_changed(module):
-        raise Bad(f"{module.name}: its code isn't what its labels were made for: "
-                  "another tool has changed it since, so label what it makes "
-                  "(blade-label --replace)")
+        raise LostLabel(f"{module.name}: its code isn't what its labels were made for: "
+                        "another tool has changed it since, so label what it makes "
+                        "(blade-label --replace)")
 
 
 def is_labelled(module: Module) -> bool:

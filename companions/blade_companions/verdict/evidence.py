@@ -98,6 +98,7 @@ class Evidence:
     causes: List[Cause]
     meeting: Optional[Meeting] = None
     witness: Optional[Witness] = None
+    is_searched: bool = True  # whether a search compared any two runs
 
     def numbers(self, ends: Iterable[End], bits: int = -1) -> Tuple[int, int]:
         """Of some ends how many the run came to, and how many met there what may change, with a mark among

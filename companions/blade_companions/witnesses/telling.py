@@ -17,6 +17,7 @@ from ..verdict.text import place_text
 
 PLACES = 6  # so many lines of C are named in a row
 BYTES = 4  # so many changed bytes are told one by one
+UNSEARCHED = "gave up before anything was searched"
 
 
 def where(lines: Lines, position: int) -> str:
@@ -125,7 +126,10 @@ def of_the_run(evidence: Evidence, lines: Lines) -> Iterator[str]:
 def nothing(done: Done, evidence: Evidence, seconds: float, lines: Lines) -> Iterator[str]:
     """Nothing found: how much was tried, and what the run says."""
     ended = f", stopped after {seconds:g} seconds" if done.stopped else ""
-    yield f"nothing found, which isn't to say that there is nothing{ended}: {done.text()}"
+    if done.is_begun:
+        yield f"nothing found, which isn't to say that there is nothing{ended}: {done.text()}"
+    else:
+        yield f"{UNSEARCHED}{ended}: no two runs were compared; give it more --seconds, or a shorter run"
     if done.cut:
         yield f"  the search isn't complete: traces end at {LINES:,} directives, before the run does"
     yield from of_the_run(evidence, lines)
