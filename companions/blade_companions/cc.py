@@ -24,7 +24,8 @@ WORDS are clang's and, behind -Wl, wasm-ld's. Besides:
     --no-fail                if the verdict is no, the status is 0 all the same, what is made is kept, and
                              violations are warnings, not errors
     --limit N                prints at most N violations (20)
-    --name NAME              the module's name (that of OUT.wasm, or of the only file)
+    --name NAME              the module's name (that of OUT.wasm or of the only file; of several files that
+                             of the folder OUT/)
     --blade PROGRAM          the program (BLADE, else the one of this repository or release, else blade)
     -v                       shows each command, as it could be typed
 
@@ -90,7 +91,7 @@ class Driver:
     def __init__(self, asked: Asked) -> None:
         self.asked, self.runner = asked, Runner(asked.verbose)
         self.program = program(asked.blade)
-        self.module = asked.name or asked.base
+        self.module = asked.name or asked.base or "a"
         out = asked.out or f"{self.module}.blade/"
         out = f"./{out}" if out.startswith("-") else out  # no tool takes it for a word
         # A linker's output is a file, and so is what has an ending.
@@ -100,6 +101,11 @@ class Driver:
         self.folder = f"{os.path.splitext(out)[0]}.blade" if self.file else out.rstrip("/")
         if self.file and not asked.name:
             self.module = os.path.splitext(os.path.basename(out))[0]
+        elif asked.out and not asked.name and not asked.base:
+            self.module = name_of_folder(self.folder) or self.module
+        if self.module == asked.way:
+            raise Stop(USAGE, f"blade-cc: error: the module can't be called {self.module}, as that of the "
+                       "accessors is: give it another name by --name NAME")
         self.aside = f"{self.folder}/refused"
         self.where: Dict[Entry, str] = {}  # where labels were declared
         self.called: Dict[Entry, str] = {}  # their parameters as C calls them
@@ -365,6 +371,12 @@ class Driver:
                  sarif.as_sarif(told, f"{made}.img", modules, lines, os.getcwd(), version()).encode())
         for line in diagnostics.as_text(told, shown(f"{made}.img"), self.asked.limit, lines):
             say(line, sys.stderr)
+
+
+def name_of_folder(folder: str) -> str:
+    """The name of a module of several files: that of the folder for what is made."""
+    name = os.path.basename(os.path.abspath(folder))
+    return name[: -len(".blade")] if name.endswith(".blade") else name
 
 
 def is_meant(module: Module, index: int, names: Sequence[str]) -> bool:

@@ -90,12 +90,12 @@ def words_of(words: Sequence[str]) -> argparse.Namespace:
     parser.add_argument("--run", metavar="N", type=count, default=RUN,
                         help="with --start: so many commands are followed (1,000,000)")
     parser.add_argument("--witness", metavar="PREFIX",
-                        help="judges what blade-witness wrote again, and marks the end")
+                        help="judges what blade-witness wrote again, and marks the place")
     parser.add_argument("--blade", metavar="PROGRAM", help="the program, for --witness (BLADE, else the one "
                         "that is built here, else blade)")
     parser.add_argument("--causes", metavar="N", type=count, default=3,
                         help="so many causes are told in detail (3)")
-    parser.add_argument("--ways", metavar="N", type=count, default=1, help="so many ends of each (1)")
+    parser.add_argument("--ways", metavar="N", type=count, default=1, help="prints N violations of each cause (1)")
     parser.add_argument("--page", metavar="FILE", help="writes a page for the browser, too")
     parser.add_argument("--lines", action="store_true",
                         help="tells the refused places in the form of compilers, instead of the text")

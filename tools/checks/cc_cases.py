@@ -126,6 +126,15 @@ LABELS = [
          "int h(int y) { return g(y) * 2; }\n"),
     Case("nothing", ["--label", "secret-param nothing kye"], 5,
          ["nothing has no parameter kye: do you mean key?"], "int nothing(int key) { return key; }\n"),
+    Case("far", ["--label", "secret-param far 7"], 5,
+         ["error: secret-param far 7: far has 3 parameters in C (counted from 0) [blade-label]"],
+         "int far(int x, int y, int z) { return x + y + z; }\n"),
+    Case("far_by_macro", [], 5,
+         ["far_by_macro.c:3: error: secret-param f 1: f has 1 parameter in C (counted from 0) [blade-label]"],
+         HEAD + "int f(int x);\nBLADE_SECRET_PARAM(f, 1);\nint f(int x) { return x; }\n"),
+    Case("kind", ["--label", "secret-parm kind 0"], 5,
+         ["secret-parm is no kind of label: the kinds are secret-param F I, secret-global G, secret-memory M, "
+          "public-result F I and public-global G"], "int kind(int x) { return x; }\n"),
     Case("nobody", ["--label", "secret-param nobdy 0"], 5, ["no function is called nobdy"],
          "int nobody(int x) { return x; }\n"),
 ]

@@ -60,12 +60,12 @@ LEAKS = [
 ]
 # What is constant-time, or tells nothing there: the same table's other half.
 QUIET = [
-    Leak("masked", "masked/masked", "arg 3\n", told=("reaches 2 of 2 refused ends, and meets at 0 of them",)),
+    Leak("masked", "masked/masked", "arg 3\n", told=("reaches 2 of 2 violations, and meets at 0 of them",)),
     Leak("masked_ssa", "masked_ssa/masked", "arg 3\n"),
     Leak("compare", "compare/compare", TAGS),
     Leak("quarter", "quarter/quarter", f"arg 4096\nmemory 0 4096 {'0123456789abcdef' * 2}\n"),
     Leak("piece.g", "piece/add", PIECE, "--keep 0:4096:4",
-         told=("looks public", "none would be refused: examples/piece.c:11")),
+         told=("looks public", "no violation would be left: examples/piece.c:11")),
     Leak("piece", "piece/add", PIECE.replace("memory 0", "memory 1") + "memory 0 4096 03000000\n"),
     Leak("handle", "handle/f",
          f"arg 4096\narg 255\nmemory 1 4096 0020000004000000\nmemory 0 8192 {'11' * 16}\n"),
@@ -228,7 +228,7 @@ def explained(check: Check) -> None:
     status, text = explain(check, "--start", "lookup/lookup", f"{EXAMPLES}/three.start", "--witness", out,
                            "--page", written[0], "--sarif", written[1], "--json", written[2])
     shown = all(one in text for one in ("constant-time no, leak witnessed: 1 of",
-                                        "leak witnessed: address of a load", "reaches 1 of 1 refused ends"))
+                                        "leak witnessed: address of a load", "reaches 1 of 1 violations"))
     texts = [open(path, encoding="utf-8").read() for path in written]
     shown = (shown and "leak witnessed" in texts[0] and '"level": "error"' in texts[1]
              and '"witnessed": true' in texts[2])

@@ -71,9 +71,9 @@ class Asked:
 
     @property
     def base(self) -> str:
-        """The name of what is made, where -o doesn't say it."""
+        """The name of the only file; nothing if there are several."""
         files = self.sources + self.objects
-        return os.path.splitext(os.path.basename(files[0]))[0] if len(files) == 1 else "a"
+        return os.path.splitext(os.path.basename(files[0]))[0] if len(files) == 1 else ""
 
 
 def number(word: str, value: str, most: int) -> int:

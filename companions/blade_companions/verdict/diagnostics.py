@@ -340,7 +340,7 @@ def as_text(told: Told, image: str, limit: int, lines: Lines) -> Iterator[str]:
     if len(told.problems) > limit:
         yield f"{image}: note: and {len(told.problems) - limit} more places (--limit)"
     if len(told.problems) > MANY:
-        yield f"{image}: note: begin with what reaches most of the {len(told.found.refused)} refused ends:"
+        yield f"{image}: note: begin with what causes most of the {len(told.found.refused)} violations:"
         for source in told.sources[:MOST_SOURCES]:
             where = spelled(source.line,
                             f"{image}: position {source.position}" if source.position >= 0 else image)

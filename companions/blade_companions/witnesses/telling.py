@@ -59,11 +59,12 @@ def not_refused(findings: Findings, found: Found, position: int) -> Iterator[str
     """Where the labels say nothing of this end."""
     if end_at(findings.image, position) in {end.position for end in findings.refused}:
         return
+    word = kind_of(findings.image, position).split(" ")[0]
     if found.plain:
-        yield ("  the labels don't refuse this end, but a store to a public memory before it: what is loaded "
-               "there again counts as public")
+        yield (f"  the labels don't refuse this {word}, but a store to a public memory before it: what is "
+               "loaded there again counts as public")
     else:
-        yield ("  the labels don't refuse this end: they speak of no wrong guess, of which "
+        yield (f"  the labels don't refuse this {word}: they speak of no wrong guess, of which "
                "protects keep what is loaded")
 
 
@@ -108,13 +109,13 @@ def places(positions: List[int], lines: Lines) -> str:
 def of_the_run(evidence: Evidence, lines: Lines) -> Iterator[str]:
     """What START's own run says of the ends that the labels refuse."""
     if not evidence.found.refused:
-        yield "  the labels refuse no end"
+        yield "  the labels refuse no branch, address or division"
         return
     yield f"  {evidence.run_text()}"
     clean = evidence.never_loaded()
     if clean:
         left = evidence.still_refused(clean)
-        said = f"{left} ends would still be refused" if left else "none would be refused"
+        said = f"{left} violations would be left" if left else "no violation would be left"
         yield (f"  looks public, {UNPROVED}: these lines never loaded what was changed; were it public, "
                f"{said}: {places(clean, lines)}")
         yield f"    (blade-explain --public {','.join(map(str, clean))})"
