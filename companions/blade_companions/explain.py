@@ -95,7 +95,8 @@ def words_of(words: Sequence[str]) -> argparse.Namespace:
                         "that is built here, else blade)")
     parser.add_argument("--causes", metavar="N", type=count, default=3,
                         help="so many causes are told in detail (3)")
-    parser.add_argument("--ways", metavar="N", type=count, default=1, help="prints N violations of each cause (1)")
+    parser.add_argument("--ways", metavar="N", type=count, default=1,
+                        help="prints N violations of each cause (1)")
     parser.add_argument("--page", metavar="FILE", help="writes a page for the browser, too")
     parser.add_argument("--lines", action="store_true",
                         help="tells the refused places in the form of compilers, instead of the text")

@@ -133,8 +133,8 @@ LABELS = [
          ["far_by_macro.c:3: error: secret-param f 1: f has 1 parameter in C (counted from 0) [blade-label]"],
          HEAD + "int f(int x);\nBLADE_SECRET_PARAM(f, 1);\nint f(int x) { return x; }\n"),
     Case("kind", ["--label", "secret-parm kind 0"], 5,
-         ["secret-parm is no kind of label: the kinds are secret-param F I, secret-global G, secret-memory M, "
-          "public-result F I and public-global G"], "int kind(int x) { return x; }\n"),
+         ["secret-parm is no kind of label: the kinds are secret-param F I, secret-global G, "
+          "secret-memory M, public-result F I and public-global G"], "int kind(int x) { return x; }\n"),
     Case("nobody", ["--label", "secret-param nobdy 0"], 5, ["no function is called nobdy"],
          "int nobody(int x) { return x; }\n"),
 ]
