@@ -9,6 +9,10 @@ where a secret goes. It runs clang, wasm-ld, wasm-opt and blade; -v shows how. L
 WORDS are clang's and, behind -Wl, wasm-ld's. Besides:
     --label 'KIND NAME ..'   labels as blade-label takes them, beside those of blade.h in the sources
     --ledger, --vault        with -DLEDGER or -DVAULT, and the module of the accessors
+    --sysroot FOLDER         where wasi-libc is: FOLDER/include/wasm32-wasi and FOLDER/lib/wasm32-wasi (if not
+                             given, the folder of the variable WASI_SYSROOT, else /usr)
+    --config-h[=NAME.h]      makes an empty config.h, or NAME.h, that counts if no folder of -I has another
+                             one, and says where it is: for code whose configure didn't run
     --memory PAGES           so many pages of memory, first and last (3, or as many as the data takes and one)
     --export NAME            exports this function, and only such (all that the objects give to others,
                              where the code doesn't say)

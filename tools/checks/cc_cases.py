@@ -155,9 +155,36 @@ REFUSALS = [
          'f(unsigned *p) { return ld32((unsigned)p); }\n'),
     Case("pages", [*MEMORY, "--memory", "1"], 3, ["memory too small", "--memory PAGES"],
          "unsigned char room[70000] = {1};\nvoid pages(unsigned i) { room[i] = 2; }\n"),
-    Case("heap", [], 3, ["undefined symbol: malloc", "malloc stands in no file that was given", "wasi-libc"],
+    Case("heap", [], 3,
+         ["error: no file that was given defines malloc (called by f) [blade-undefined]",
+          "note: malloc: of the C library: apt-get install wasi-libc has them"],
          HEAD + "void *malloc(unsigned long);\nvoid *f(unsigned n) { return malloc(n); }\n"),
-    Case("header", [], 3, ["'stdio.h' file not found", "apt-get install wasi-libc"], "#include <stdio.h>\n"),
+    Case("undefined", [], 3,
+         ["error: no file that was given defines free (called by f, g), malloc (called by g), mine (called by f, "
+          "g, h and 1 more) [blade-undefined]\nblade-cc: note: free, malloc: of the C library: apt-get",
+          "; mine: name the files or libraries that define them\n"],
+         HEAD + "BLADE_SECRET_MEMORY;\nvoid *malloc(unsigned long);\nvoid free(void *);\nvoid mine(void *);\n"
+         "void f(void *p) { mine(p); free(p); }\nvoid g(int n) { void *p = malloc(n); mine(p); free(p); }\n"
+         "void h(void) { mine(0); }\nvoid i(void) { mine(0); }\n"),
+    Case("header", [], 3,
+         ["'stdio.h' file not found", "note: stdio.h is a standard header: apt-get install wasi-libc has it (or "
+          "--sysroot FOLDER, or the variable WASI_SYSROOT,"], "#include <stdio.h>\n"),
+    Case("unix_header", [], 3, ["note: pthread.h is a header of Unix, which wasi-libc hasn't"],
+         "#include <pthread.h>\n"),
+    Case("configured", [], 3,
+         ["note: config.h is generated: run configure (or cmake) first and name its folder by -I, or say "
+          "--config-h, which makes an empty one and shows where [blade-header]"], '#include "config.h"\n'),
+    Case("config_h", [*MEMORY, "--config-h"], 0,
+         ["note: config.h: config_h/build/config/config.h, which is empty, counts if no folder of -I has",
+          "config_h: constant-time yes"],
+         '#include "config.h"\n#ifdef HAVE_FAST\n#error\n#endif\nint config_h(int x) { return x; }\n'),
+    Case("config_out", [*MEMORY, "--config-h=../x.h"], 2, ["the name of a header as code includes it is due"],
+         "int f(int x) { return x; }\n"),
+    Case("other_header", [], 3,
+         ["note: other.h is a header of the project or of another library: -I FOLDER names where it is"],
+         '#include "other.h"\n'),
+    Case("sysroot", ["--sysroot", "nowhere"], 2, ["--sysroot nowhere: there is no include/wasm32-wasi in it"],
+         "int f(int x) { return x; }\n"),
     Case("machine", ["-msimd128"], 2, ["without vectors"], HEAD),
     Case("wrong", [], 3, ["wrong.c:1:8: error:"], "int f( {\n"),
 ]
