@@ -33,7 +33,7 @@ HEADERS = {
     "pthread.h": "a header of Unix, which wasi-libc hasn't",
     "includes.h": "a header of the project: say -I src [blade-header]",
     "utils/common.h": "a header of the project: say -I lib/deep [blade-header]",
-    "config.h": "generated: run configure (or cmake) first and name its folder by -I, or say --config-h, which",
+    "config.h": "generated: run configure (or cmake) first and name its folder by -I, or say --config-h,",
     "version.h": "generated from gen/version.h.in: run configure",
     "build.h": "generated from conf/build.h.in: run configure",
     "other.h": "a header of the project or of another library: -I FOLDER names where it is"}
@@ -70,8 +70,8 @@ class Refusals(unittest.TestCase):
     def test_all_undefined_names_are_one_note(self) -> None:
         names = ["malloc", "__multi3", "mine", "free"]
         error, note = about_symbols(names, {"malloc": ["a", "b", "c", "d", "e"]}, False)
-        self.assertEqual(error, "blade-cc: error: no file that was given defines __multi3, free, malloc (called "
-                         "by a, b, c and 2 more), mine [blade-undefined]")
+        self.assertEqual(error, "blade-cc: error: no file that was given defines __multi3, free, malloc "
+                         "(called by a, b, c and 2 more), mine [blade-undefined]")
         self.assertEqual([one.partition(": ")[0] for one in note[len("blade-cc: note: ") :].split("; ")],
                          ["free, malloc", "__multi3", "mine"])
         self.assertIn("free, malloc, mine: name the files", about_symbols(names, {}, True)[1])

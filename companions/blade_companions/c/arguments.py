@@ -102,8 +102,8 @@ def sysroot(asked: Asked, folder: str) -> None:
 def empty_header(asked: Asked, name: str) -> None:
     """A header that --config-h names: below the folder for it."""
     if name.startswith("/") or ".." in name.split("/") or not name.endswith(".h"):
-        raise Stop(USAGE, f"blade-cc: error: --config-h={name}: the name of a header as code includes it is due, "
-                   "without ..")
+        raise Stop(USAGE, f"blade-cc: error: --config-h={name}: the name of a header as code includes it is "
+                   "due, without ..")
     asked.empty_headers.append(name)
 
 

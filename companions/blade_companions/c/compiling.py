@@ -40,11 +40,12 @@ class Compiler:
         """Makes the headers of --config-h, empty, in a folder, and says so."""
         for name in self.asked.empty_headers:
             path = f"{folder}/{name}"
-            os.makedirs(os.path.dirname(path), exist_ok=True)
-            self.runner.show_text(shlex.join(["mkdir", "-p", os.path.dirname(path)]) + f" && : > {shlex.quote(path)}")
+            above = os.path.dirname(path)
+            os.makedirs(above, exist_ok=True)
+            self.runner.show_text(f"mkdir -p {shlex.quote(above)} && : > {shlex.quote(path)}")
             written_to(path, b"")
-            say(f"blade-cc: note: {name}: {path}, which is empty, counts if no folder of -I has another one: what "
-                "the code asks for by HAVE_.. counts as missing", sys.stderr)
+            say(f"blade-cc: note: {name}: {path}, which is empty, counts if no folder of -I has another one: "
+                "what the code asks for by HAVE_.. counts as missing", sys.stderr)
             self.last = ["-idirafter", folder]
 
     def words(self, source: str) -> List[str]:

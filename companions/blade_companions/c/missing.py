@@ -12,27 +12,27 @@ from .callers import called_in
 
 # The headers that wasi-libc has, but for those of networks and devices.
 STANDARD = frozenset(
-    "alloca.h assert.h byteswap.h complex.h ctype.h dirent.h endian.h err.h errno.h fcntl.h features.h fenv.h "
-    "float.h fnmatch.h getopt.h glob.h iconv.h inttypes.h iso646.h langinfo.h libgen.h limits.h locale.h "
-    "malloc.h math.h memory.h poll.h regex.h sched.h search.h semaphore.h signal.h stdalign.h stdarg.h "
-    "stdbool.h stddef.h stdint.h stdio.h stdlib.h stdnoreturn.h string.h strings.h sysexits.h tgmath.h "
-    "threads.h time.h uchar.h unistd.h utime.h values.h wchar.h wctype.h arpa/inet.h net/if.h netinet/in.h "
-    "netinet/tcp.h sys/errno.h sys/fcntl.h sys/file.h sys/ioctl.h sys/mman.h sys/param.h sys/poll.h "
-    "sys/random.h sys/resource.h sys/select.h sys/signal.h sys/socket.h sys/stat.h sys/syscall.h sys/time.h "
-    "sys/times.h sys/types.h sys/uio.h sys/un.h sys/utsname.h".split())
+    "alloca.h assert.h byteswap.h complex.h ctype.h dirent.h endian.h err.h errno.h fcntl.h features.h "
+    "fenv.h float.h fnmatch.h getopt.h glob.h iconv.h inttypes.h iso646.h langinfo.h libgen.h limits.h "
+    "locale.h malloc.h math.h memory.h poll.h regex.h sched.h search.h semaphore.h signal.h stdalign.h "
+    "stdarg.h stdbool.h stddef.h stdint.h stdio.h stdlib.h stdnoreturn.h string.h strings.h sysexits.h "
+    "tgmath.h threads.h time.h uchar.h unistd.h utime.h values.h wchar.h wctype.h arpa/inet.h net/if.h "
+    "netinet/in.h netinet/tcp.h sys/errno.h sys/fcntl.h sys/file.h sys/ioctl.h sys/mman.h sys/param.h "
+    "sys/poll.h sys/random.h sys/resource.h sys/select.h sys/signal.h sys/socket.h sys/stat.h "
+    "sys/syscall.h sys/time.h sys/times.h sys/types.h sys/uio.h sys/un.h sys/utsname.h".split())
 # Those that Unix has and wasi-libc hasn't: processes, users, terminals.
 UNIX = frozenset(
-    "dlfcn.h elf.h execinfo.h grp.h link.h netdb.h pthread.h pty.h pwd.h setjmp.h shadow.h spawn.h syslog.h "
-    "termios.h ucontext.h utmp.h utmpx.h wordexp.h sys/epoll.h sys/ipc.h sys/msg.h sys/prctl.h sys/ptrace.h "
-    "sys/sem.h sys/shm.h sys/wait.h".split())
+    "dlfcn.h elf.h execinfo.h grp.h link.h netdb.h pthread.h pty.h pwd.h setjmp.h shadow.h spawn.h "
+    "syslog.h termios.h ucontext.h utmp.h utmpx.h wordexp.h sys/epoll.h sys/ipc.h sys/msg.h sys/prctl.h "
+    "sys/ptrace.h sys/sem.h sys/shm.h sys/wait.h".split())
 # Functions of the C library that cryptographic code calls most.
 OF_LIBRARY = frozenset(
     "abort abs atoi bsearch calloc exit explicit_bzero fclose fopen fprintf fputc fputs fread free fwrite "
-    "getenv isalnum isalpha isdigit isspace isxdigit labs malloc memccpy memchr memmem mempcpy memrchr printf "
-    "putchar puts qsort rand realloc snprintf sprintf srand sscanf stpcpy strcasecmp strcat strchr strcmp "
-    "strcpy strcspn strdup strerror strlen strncasecmp strncat strncmp strncpy strndup strnlen strrchr strspn "
-    "strstr strtok strtol strtoul time tolower toupper vfprintf vprintf vsnprintf vsprintf __assert_fail "
-    "posix_memalign aligned_alloc".split())
+    "getenv isalnum isalpha isdigit isspace isxdigit labs malloc memccpy memchr memmem mempcpy memrchr "
+    "printf putchar puts qsort rand realloc snprintf sprintf srand sscanf stpcpy strcasecmp strcat strchr "
+    "strcmp strcpy strcspn strdup strerror strlen strncasecmp strncat strncmp strncpy strndup strnlen "
+    "strrchr strspn strstr strtok strtol strtoul time tolower toupper vfprintf vprintf vsnprintf vsprintf "
+    "__assert_fail posix_memalign aligned_alloc".split())
 SOME = 12  # so many names are told in a row
 FEW = 3  # so many callers of a name, and so many folders
 FILES = 20_000  # the most that are looked through for a header
@@ -79,7 +79,8 @@ def header_text(name: str) -> str:
                 "the header")
     place = looked_up(name)
     if place.folders:
-        return f"{name} is a header of the project: say {' or '.join(f'-I {it}' for it in place.folders[:FEW])}"
+        words = " or ".join(f"-I {folder}" for folder in place.folders[:FEW])
+        return f"{name} is a header of the project: say {words}"
     if place.templates or os.path.basename(name) == "config.h":
         of = f" from {place.templates[0]}" if place.templates else ""
         word = "--config-h" if name == "config.h" else f"--config-h={name}"
@@ -136,17 +137,18 @@ def remedies(names: Sequence[str], has_library: bool) -> Iterator[str]:
     floats = taken(r"__\w+(sf|df|tf)\w*\d?")
     library = [] if has_library else taken("|".join(sorted(OF_LIBRARY)))
     for group, text in (
-            (library, "of the C library: apt-get install wasi-libc has them (blade-cc itself has memcpy, memmove, "
-             "memset and memcmp)"),
-            (wide, "made of __int128: apt-get install libclang-rt-14-dev-wasm32 (or of your clang's version), or "
-             "use smaller products"),
+            (library, "of the C library: apt-get install wasi-libc has them (blade-cc itself has memcpy, "
+             "memmove, memset and memcmp)"),
+            (wide, "made of __int128: apt-get install libclang-rt-14-dev-wasm32 (or of your clang's version), "
+             "or use smaller products"),
             (floats, "made of floats, which blade doesn't take"),
             (rest, "name the files or libraries that define them")):
         if group:
             yield f"{several(group, SOME)}: {text}"
 
 
-def about_symbols(missing: Sequence[str], callers: Mapping[str, Sequence[str]], has_library: bool) -> List[str]:
+def about_symbols(missing: Sequence[str], callers: Mapping[str, Sequence[str]],
+                  has_library: bool) -> List[str]:
     """An error with all names that the linker doesn't find and who calls them, and one note on what helps."""
     names = sorted(missing)
     return [undefined(names, callers), f"blade-cc: note: {'; '.join(remedies(names, has_library))}"]
