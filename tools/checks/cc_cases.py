@@ -160,8 +160,8 @@ REFUSALS = [
           "note: malloc: of the C library: apt-get install wasi-libc has them"],
          HEAD + "void *malloc(unsigned long);\nvoid *f(unsigned n) { return malloc(n); }\n"),
     Case("undefined", [], 3,
-         ["error: no file that was given defines free (called by f, g), malloc (called by g), mine (called by "
-          "f, g, h and 1 more) [blade-undefined]\nblade-cc: note: free, malloc: of the C library: apt-get",
+         ["error: no file that was given defines free (called by f, g), malloc (called by g), mine (called "
+          "by f, g, h and 1 more) [blade-undefined]\nblade-cc: note: free, malloc: of the C library: apt-get",
           "; mine: name the files or libraries that define them\n"],
          HEAD + "BLADE_SECRET_MEMORY;\nvoid *malloc(unsigned long);\nvoid free(void *);\nvoid mine(void *);\n"
          "void f(void *p) { mine(p); free(p); }\nvoid g(int n) { void *p = malloc(n); mine(p); free(p); }\n"

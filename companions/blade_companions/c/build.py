@@ -117,8 +117,8 @@ class Builder:
         least = pages = self.asked.pages or FIRST_PAGES
         while True:
             words = [found("wasm-ld"), "--no-entry", "--error-limit=0", *links, *self.memory(pages),
-                     *self.asked.links, *exports, f"--reproduce={self.folder}/inputs.tar", "-o", linked, *objects,
-                     *extra]
+                     *self.asked.links, *exports, f"--reproduce={self.folder}/inputs.tar", "-o", linked,
+                     *objects, *extra]
             done = self.runner.run(words)
             missing = set(re.findall(r"undefined symbol: (\S+)", done.errors))
             needed = re.search(r"memory too small, (\d+) bytes needed", done.errors)

@@ -139,8 +139,8 @@ def remedies(names: Sequence[str], has_library: bool) -> Iterator[str]:
     for group, text in (
             (library, "of the C library: apt-get install wasi-libc has them (blade-cc itself has memcpy, "
              "memmove, memset and memcmp)"),
-            (wide, "made of __int128: apt-get install libclang-rt-14-dev-wasm32 (or of your clang's version), "
-             "or use smaller products"),
+            (wide, "made of __int128: apt-get install libclang-rt-14-dev-wasm32 (or of your clang's "
+             "version), or use smaller products"),
             (floats, "made of floats, which blade doesn't take"),
             (rest, "name the files or libraries that define them")):
         if group:
