@@ -6,7 +6,7 @@ import os
 import re
 import subprocess
 import tempfile
-from typing import List, Sequence, Set
+from typing import Dict, List, Sequence, Set
 
 from .arguments import ALONE, BUILD, USAGE, Asked, Stop
 from .dwarf import all_contents
@@ -14,8 +14,8 @@ from .declarations import lines_in
 from .inputs import Input, inputs_in, lines_of, text_of
 from .objects import given_by
 from .strangers import left_out_words, of_inputs
-from .compiling import TARGET, WASI, Compiler
-from .refusals import about_symbols
+from .compiling import TARGET, Compiler
+from .missing import about_symbols, callers_of
 from .tools import INCLUDE, Ran, Runner, found, written_to
 from ..formats.module import FUNCTION, Module, read_module
 
@@ -25,7 +25,6 @@ PAGE = 65536
 FIRST_PAGES = 3  # one for the stack, one for data, one for the buffers of calls
 MASKS = "blade_secret_mask_"  # what BLADE_SECRET reads
 LIBRARY = ("memcpy", "memmove", "memset", "memcmp")
-WASI_LIBRARY = f"{WASI}/lib/wasm32-wasi/libc.a"
 
 
 class Builder:
@@ -56,6 +55,7 @@ class Builder:
             raise Stop(USAGE, "blade-cc: error: -o with several sources, where nothing is linked")
         with tempfile.TemporaryDirectory(prefix="blade-") as folder:
             ending = ".o" if last == "-c" else ".s"
+            self.compiler.empty_headers(f"{folder}/config")
             names = [out or os.path.splitext(os.path.basename(source))[0] + ending for source in sources]
             for number, pair in enumerate(zip(sources, names)):
                 os.mkdir(f"{folder}/{number}")
@@ -67,6 +67,7 @@ class Builder:
         sources = self.asked.sources
         made = [f"{self.folder}/{number}-{os.path.splitext(os.path.basename(source))[0]}.o" for number, source
                 in enumerate(sources)]
+        self.compiler.empty_headers(f"{self.folder}/config")
         self.compiler.compile(list(zip(sources, made)), self.folder)
         return made + self.asked.objects
 
@@ -85,7 +86,7 @@ class Builder:
             return [to]
         own = subprocess.run([found("clang"), "--target=wasm32-wasi", "-print-libgcc-file-name"],
                              capture_output=True, text=True, check=False).stdout.strip()
-        return [to] + [one for one in (WASI_LIBRARY, own) if os.path.exists(one)]
+        return [to] + [one for one in (self.asked.wasi_library(), own) if os.path.exists(one)]
 
     def exports(self, objects: Sequence[str]) -> List[str]:
         """Words that export what other units may call, of the objects themselves: nothing else says what is
@@ -115,9 +116,10 @@ class Builder:
         extra: List[str] = []
         least = pages = self.asked.pages or FIRST_PAGES
         while True:
-            done = self.runner.run([found("wasm-ld"), "--no-entry", *links, *self.memory(pages),
-                                    *self.asked.links, *exports, f"--reproduce={self.folder}/inputs.tar",
-                                    "-o", linked, *objects, *extra])
+            words = [found("wasm-ld"), "--no-entry", "--error-limit=0", *links, *self.memory(pages),
+                     *self.asked.links, *exports, f"--reproduce={self.folder}/inputs.tar", "-o", linked,
+                     *objects, *extra]
+            done = self.runner.run(words)
             missing = set(re.findall(r"undefined symbol: (\S+)", done.errors))
             needed = re.search(r"memory too small, (\d+) bytes needed", done.errors)
             if done.status and missing and not extra:
@@ -125,17 +127,30 @@ class Builder:
             elif done.status and needed and not self.asked.pages and pages == least:
                 pages = -(-int(needed[1]) // PAGE) + 1
             elif done.status:
-                raise self.refused(done, missing, needed is not None)
+                raise self.refused(words, done, missing, needed is not None)
             elif exports or self.asked.is_linked_with("--export") or exports_functions(read_module(linked)):
                 return read_module(linked)
             else:
                 exports = self.exports(objects) or ["--export-dynamic"]
 
-    def refused(self, done: Ran, missing: Set[str], is_small: bool) -> Stop:
-        hints = about_symbols(missing)
+    def refused(self, words: List[str], done: Ran, missing: Set[str], is_small: bool) -> Stop:
+        """Why the linker refuses the objects. What they lack is told once, with who calls it."""
+        told = [line for line in done.errors.splitlines() if not missing or "undefined symbol: " not in line]
+        if missing:
+            told += about_symbols(sorted(missing), self.callers(words),
+                                  os.path.exists(self.asked.wasi_library()))
         if is_small:
-            hints.append("blade-cc: note: give more pages by --memory PAGES")
-        return Stop(BUILD, done.errors.rstrip(), *hints)
+            told.append("blade-cc: note: give more pages by --memory PAGES")
+        return Stop(BUILD, *told)
+
+    def callers(self, words: List[str]) -> Dict[str, List[str]]:
+        """Of each function that no object defines those that call it: the objects are linked once more, with
+        these functions as imports."""
+        open_end = f"{self.folder}/undefined.wasm"
+        words = [word for word in words if not word.startswith("--reproduce=")]
+        words[words.index("-o") + 1] = open_end
+        done = self.runner.run([*words, "--allow-undefined"])
+        return {} if done.status else callers_of(read_module(open_end))
 
     def inputs(self) -> List[Input]:
         """All that the linker opened."""

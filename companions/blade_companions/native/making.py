@@ -10,7 +10,7 @@ import tempfile
 from typing import Iterable, List, NamedTuple, Optional
 
 from ..check import refused_answers
-from ..formats.reading import Bad, read_file
+from ..formats.reading import Bad, GaveUp, read_file
 from ..printing import say
 from ..writing import write_file
 from .building import build, libraries
@@ -108,7 +108,7 @@ def compiled(image: Image, how: Building, source: str, path: str) -> int:
     most = most_bytes(calls, frames_in(usage))
     build(how.compiler, source, path, how.level, [*more, f"-DBLADE_STACK={most}"])
     if most_bytes(calls, frames_in(usage)) > most:
-        raise Bad("the frames differ from one compilation to the next")
+        raise GaveUp("the frames differ from one compilation to the next")
     return most
 
 

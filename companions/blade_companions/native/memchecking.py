@@ -10,7 +10,7 @@ import sys
 import tempfile
 from typing import List, NamedTuple, Sequence, Tuple
 
-from ..formats.reading import Bad, read_file
+from ..formats.reading import Bad, GaveUp, read_file
 from ..formats.running import PAGE, Start, read_start
 from ..printing import say
 from .building import build
@@ -137,17 +137,18 @@ def export_named(module: Module, name: str) -> Export:
 def tried(image: Image, given: str, compiler: str, level: str) -> bool:
     """Whether memcheck reports nothing on a run from [EXPORT=]START."""
     if not shutil.which("valgrind"):
-        raise Bad("the test was skipped: valgrind isn't installed")
+        raise GaveUp("the test was skipped: valgrind isn't installed")
     name, is_named, path = given.partition("=")
     if not is_named:
         name, path = "", given
     one = export_named(image.module, name)
     if not is_any_secret(image.module, one.number):
-        raise Bad(f"{one.word} has nothing secret, so the test would show nothing")
+        raise GaveUp(f"{one.word} has nothing secret, so the test would show nothing")
     start = read_start(read_file(path, "start").decode("ascii", "replace"))
     done = memcheck(image.module, one, start, compiler, level)
     if done.returncode not in (0, TOLD) or not done.stdout.startswith(ENDED):
-        raise Bad(f"the test didn't run: valgrind ended with {done.returncode}: {done.stderr.strip()[-300:]}")
+        raise GaveUp("the test didn't run: valgrind ended with "
+                     f"{done.returncode}: {done.stderr.strip()[-300:]}")
     end = done.stdout[len(ENDED) :].splitlines()[0]
     if done.returncode == TOLD:
         for line in done.stderr.splitlines()[:MOST_LINES]:

@@ -19,6 +19,7 @@ MOST_JUDGED = 40  # so many causes get a likely reason
 MANY, MOST_SOURCES = 3, 4  # with more places than that it is told where to begin: so many lines
 MOST_STEPS = 12  # of a way
 CALLED = "call by a secret"
+WARNING, ERROR = "warning", "error"
 
 
 @dataclass(frozen=True)
@@ -101,6 +102,7 @@ class Told:
     # by the positions of problems, what a run and a witness show, in place of what is likely
     observed: Dict[int, str] = field(default_factory=dict)
     witnessed: Optional[int] = None  # the position of the problem that a witness shows
+    level: str = WARNING  # what a violation is called
 
     def also(self, one: Problem) -> str:
         """What is shown of a problem, behind its text."""
@@ -311,14 +313,14 @@ def problem_text(one: Problem) -> str:
 
 
 def as_text(told: Told, image: str, limit: int, lines: Lines) -> Iterator[str]:
-    """In the form of compilers: file:line:column: warning: .. [blade-..], with notes for the way."""
+    """In the form of compilers: file:line:column: error: .. [blade-..], with notes for the way."""
     origins = set()
     for one in told.problems[:limit]:
         where = spelled(one.line, f"{image}: position {one.position} of {one.function}")
         origin = of_text(one, image)
         again = (origin, one.likely) in origins
         origins.add((origin, one.likely))
-        yield f"{where}: warning: {problem_text(one)}{', ' + origin if again else ''} [{one.rule.name}]"
+        yield f"{where}: {told.level}: {problem_text(one)}{', ' + origin if again else ''} [{one.rule.name}]"
         source = lines.source_as_is(one.line)
         if source.strip():
             yield f" {source}"
@@ -338,7 +340,7 @@ def as_text(told: Told, image: str, limit: int, lines: Lines) -> Iterator[str]:
     if len(told.problems) > limit:
         yield f"{image}: note: and {len(told.problems) - limit} more places (--limit)"
     if len(told.problems) > MANY:
-        yield f"{image}: note: begin with what reaches most of the {len(told.found.refused)} refused ends:"
+        yield f"{image}: note: begin with what causes most of the {len(told.found.refused)} violations:"
         for source in told.sources[:MOST_SOURCES]:
             where = spelled(source.line,
                             f"{image}: position {source.position}" if source.position >= 0 else image)

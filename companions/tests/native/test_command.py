@@ -251,7 +251,7 @@ class Command(unittest.TestCase):
         status, printed = self.call(self.hardened("lookup"), "--test", f"lookup={start}")
         self.assertEqual((status, "depends on a secret" in printed), (1, True), printed)
         status, printed = self.call(self.path("tried.img", looked_up()), "--test", start)
-        self.assertEqual((status, "nothing secret" in printed), (3, True), printed)
+        self.assertEqual((status, "nothing secret" in printed), (4, True), printed)
 
     def test_memcheck_isn_t_there(self) -> None:
         """A test that can't run isn't one that passed."""
@@ -261,7 +261,7 @@ class Command(unittest.TestCase):
             status, printed = self.call(found, "--test", self.path("a.start", b"arg 3\n"))
         finally:
             os.environ["PATH"] = path
-        self.assertEqual((status, "valgrind isn't installed" in printed), (3, True), printed)
+        self.assertEqual((status, "valgrind isn't installed" in printed), (4, True), printed)
 
 
 if __name__ == "__main__":
