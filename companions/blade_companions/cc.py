@@ -23,6 +23,9 @@ WORDS are clang's and, behind -Wl, wasm-ld's. Besides:
                              machine, if the verdict is yes (blade-native)
     --no-fail                status 0 where the verdict is no, and what is made is kept all the same
     --limit N                at most so many warnings (20)
+    --all                    warnings of libraries, too: else wasi-libc and whatever stands outside of the
+                             current folder is one line each
+    --allocator[=BYTES]      malloc and free whose state isn't in C's memory, over so many bytes (262,144)
     --name NAME              the module's name (that of OUT.wasm, or of the only file)
     --blade PROGRAM          the program (BLADE, else the one of this repository or release, else blade)
     -v                       shows each command, as it could be typed
@@ -358,7 +361,8 @@ class Driver:
         self.put(os.path.basename(problems), sarif.as_json(told, f"{made}.img", modules).encode())
         self.put(os.path.basename(log),
                  sarif.as_sarif(told, f"{made}.img", modules, lines, os.getcwd(), sarif.version()).encode())
-        for line in diagnostics.as_text(told, shown(f"{made}.img"), self.asked.limit, lines):
+        for line in diagnostics.as_text(told, shown(f"{made}.img"), self.asked.limit, lines,
+                                        self.asked.everything):
             say(line, sys.stderr)
 
 

@@ -95,6 +95,8 @@ def words_of(words: Sequence[str]) -> argparse.Namespace:
     parser.add_argument("--lines", action="store_true",
                         help="tells the refused places in the form of compilers, instead of the text")
     parser.add_argument("--limit", metavar="N", type=count, default=20, help="so many of them (20)")
+    parser.add_argument("--all", action="store_true", help="with --lines: those in libraries, too, which are "
+                        "one line each otherwise")
     parser.add_argument("--json", metavar="FILE",
                         help="writes the refused places and the protects for scripts, too")
     parser.add_argument("--sarif", metavar="FILE",
@@ -239,7 +241,7 @@ def tell(words: argparse.Namespace, told: diagnostics.Told, lines: Lines) -> Lis
     if words.sarif:
         write_file(words.sarif, sarif.as_sarif(told, words.image, words.modules, lines,
                                                os.path.abspath(words.root), sarif.version()).encode())
-    return list(diagnostics.as_text(told, words.image, words.limit, lines)) if words.lines else []
+    return list(diagnostics.as_text(told, words.image, words.limit, lines, words.all)) if words.lines else []
 
 
 def annotate(words: argparse.Namespace, image: Image, lines: Lines) -> List[str]:

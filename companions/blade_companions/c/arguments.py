@@ -53,6 +53,8 @@ class Asked:
     way: Optional[str] = None  # ledger or vault
     pages: Optional[int] = None
     limit: int = 20
+    everything: bool = False  # the violations of libraries are printed like those of the own sources
+    allocator: int = 0  # bytes of the heap of the allocator for verification; 0 without it
     # labelled functions that may be given public values
     public_callers: List[str] = field(default_factory=list)
     alone: bool = False
@@ -96,10 +98,12 @@ def setters(asked: Asked) -> Dict[str, Callable[[str], None]]:
     }
 
 
+HEAP, MOST_HEAP = 262_144, 16_000_000  # bytes for --allocator
 SWITCHES: Dict[str, Tuple[str, object]] = {
     "--ledger": ("way", "ledger"), "--vault": ("way", "vault"), "--unlabelled": ("unlabelled", True),
     "--no-fail": ("no_fail", True), "--no-assumptions": ("no_assumptions", True),
-    "--native": ("native", True), "-v": ("verbose", True)}
+    "--native": ("native", True), "--all": ("everything", True), "--allocator": ("allocator", HEAP),
+    "-v": ("verbose", True)}
 
 
 def asked_by(words: Sequence[str]) -> Asked:
@@ -119,6 +123,8 @@ def asked_by(words: Sequence[str]) -> Asked:
             values[word](value) if word in values else asked.flags.extend([word, value])
         elif name in values and is_joined and name.startswith("--"):
             values[name](value)
+        elif name == "--allocator" and is_joined:
+            asked.allocator = number(name, value, MOST_HEAP)
         elif word in SWITCHES:
             setattr(asked, *SWITCHES[word])
         else:

@@ -25,6 +25,8 @@ PAGE = 65536
 FIRST_PAGES = 3  # one for the stack, one for data, one for the buffers of calls
 MASKS = "blade_secret_mask_"  # what BLADE_SECRET reads
 LIBRARY = ("memcpy", "memmove", "memset", "memcmp")
+ALLOCATOR = ("malloc", "free", "calloc", "realloc", "aligned_alloc", "posix_memalign", "__libc_malloc",
+             "__libc_calloc")
 WASI_LIBRARY = f"{WASI}/lib/wasm32-wasi/libc.a"
 
 
@@ -71,14 +73,19 @@ class Builder:
         return made + self.asked.objects
 
     def library(self, missing: Set[str]) -> List[str]:
-        """What stands in no file that was given: the masks of BLADE_SECRET; the four functions of libc.c,
-        which give way to the sources' own; wasi-libc and clang's own functions, where they are installed.
-        memcmp of wasi-libc stops at the first difference, so that of libc.c goes first."""
+        """What stands in no file that was given: the masks of BLADE_SECRET; the four functions of libc.c, and
+        with --allocator those of allocator.c, which give way to the sources' own; wasi-libc and clang's own
+        functions, where they are installed. memcmp of wasi-libc stops at the first difference, so that of
+        libc.c goes first."""
         source, to = f"{self.folder}/blade-libc.c", f"{self.folder}/blade-libc.o"
-        written_to(source, ("".join(f"#pragma weak {name}\n" for name in LIBRARY)
-                            + f'#include "{INCLUDE}/libc.c"\n#include "{INCLUDE}/masks.c"\n').encode())
-        done = self.runner.run([found("clang"), *TARGET, "-O2", "-fno-builtin", "-fvisibility=hidden", "-c",
-                                "-o", to, source])
+        names, files, words = list(LIBRARY), ["libc.c", "masks.c"], []
+        if self.asked.allocator:
+            names += ALLOCATOR
+            files, words = files + ["allocator.c"], [f"-DBLADE_HEAP={self.asked.allocator}"]
+        written_to(source, "".join([f"#pragma weak {name}\n" for name in names]
+                                   + [f'#include "{INCLUDE}/{name}"\n' for name in files]).encode())
+        done = self.runner.run([found("clang"), *TARGET, "-O2", "-fno-builtin", "-fvisibility=hidden", *words,
+                                "-c", "-o", to, source])
         if done.status:
             raise Stop(BUILD, done.errors)
         if all(name.startswith(MASKS) for name in missing):
