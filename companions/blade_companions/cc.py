@@ -15,6 +15,7 @@ WORDS are clang's and, behind -Wl, wasm-ld's. Besides:
     --counts [EXPORT=]START  sets protects by the counts of a run from a start file; may be given again
     --start [EXPORT=]START   after a no, looks for two runs from a start file that show the leak, for ten
                              seconds (blade-witness)
+    --keep M:OFFSET:SIZE     with --start: these bytes of the start file are public; may be given again
     --public-callers=F,..    calls inside of the module may give public values for secret parameters of F
     --no-assumptions         clang assumes nothing of C, as in units with BLADE_SECRET: for -c of other units
                              beside such
@@ -57,7 +58,7 @@ from .formats.image import read_image
 from .formats.labels import Entry, entries_of
 from .c.lines import Line, Lines, chosen
 from .formats.lowering import LinkedFunction, lower
-from .formats.memories import pages_of, with_pages
+from .formats.memories import pages_of, with_free, with_pages
 from .c.paths import shown
 from .formats.certificate import protects_of, read_certificate
 from .formats.reading import Bad, read_file
@@ -180,10 +181,11 @@ class Driver:
 
     def label(self, linked: Module, module: Module) -> str:
         asked, to = self.asked, f"{self.aside}/{self.module}.wasm"
+        free = self.builder.free()
         # Of the vault the secrets stand in its own module; where nothing at all is declared, that is said
         # with the verdict.
         self.runner.show([os.path.join(HERE, "blade-label"), module.path, to, *asked.labels, "--unlabelled",
-                          "--linked", linked.path])
+                          "--linked", linked.path, "--free-of", free.path])
         try:
             made, told = with_source(module, asked.labels, False, True, linked)
         except Bad as bad:
@@ -193,7 +195,7 @@ class Driver:
         if errors:
             raise Stop(LABELS, *errors)
         self.where, self.called = dict(told.entries), told.called
-        written_to(to, made)
+        written_to(to, with_free(made, free))
         return to
 
     def accessors(self, labelled: str) -> List[str]:

@@ -47,6 +47,7 @@ class Asked:
     # start files, by EXPORT=FILE where there are several exports
     counts: List[str] = field(default_factory=list)
     start: Optional[str] = None  # a start file for a search after a no, in the same way
+    keep: List[str] = field(default_factory=list)  # bytes that are public there, M:OFFSET:SIZE
     out: Optional[str] = None
     name: Optional[str] = None
     blade: Optional[str] = None
@@ -89,7 +90,7 @@ def setters(asked: Asked) -> Dict[str, Callable[[str], None]]:
     return {
         "-o": keep("out"), "--name": keep("name"), "--blade": keep("blade"),
         "--label": lambda value: asked.labels.extend(value.split()), "--counts": asked.counts.append,
-        "--start": keep("start"),
+        "--start": keep("start"), "--keep": asked.keep.append,
         "--public-callers": lambda value: asked.public_callers.extend(value.split(",")),
         "--export": lambda value: asked.links.append(f"--export={value}"),
         "--memory": lambda value: setattr(asked, "pages", number("--memory", value, 256)),

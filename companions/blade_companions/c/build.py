@@ -17,6 +17,7 @@ from .strangers import left_out_words, of_inputs
 from .compiling import TARGET, WASI, Compiler
 from .refusals import about_symbols
 from .tools import INCLUDE, Ran, Runner, found, written_to
+from ..formats.memories import HEAP_BASE
 from ..formats.module import FUNCTION, Module, read_module
 
 # With the stack first a frame that doesn't fit traps; behind the data it would overwrite that.
@@ -37,6 +38,7 @@ class Builder:
         self.asked, self.runner, self.folder = asked, runner, folder
         self.compiler = Compiler(asked, runner)
         self.opened: List[Input] = []
+        self.linked_by: List[str] = []  # the words of the last link
 
     def alone(self) -> int:
         """What clang does by itself, and objects, which are made as for a module."""
@@ -122,9 +124,10 @@ class Builder:
         extra: List[str] = []
         least = pages = self.asked.pages or FIRST_PAGES
         while True:
-            done = self.runner.run([found("wasm-ld"), "--no-entry", *links, *self.memory(pages),
-                                    *self.asked.links, *exports, f"--reproduce={self.folder}/inputs.tar",
-                                    "-o", linked, *objects, *extra])
+            words = [found("wasm-ld"), "--no-entry", *links, *self.memory(pages), *self.asked.links, *exports]
+            done = self.runner.run([*words, f"--reproduce={self.folder}/inputs.tar", "-o", linked, *objects,
+                                    *extra])
+            self.linked_by = [*words, "--strip-all", *objects, *extra]
             missing = set(re.findall(r"undefined symbol: (\S+)", done.errors))
             needed = re.search(r"memory too small, (\d+) bytes needed", done.errors)
             if done.status and missing and not extra:
@@ -137,6 +140,15 @@ class Builder:
                 return read_module(linked)
             else:
                 exports = self.exports(objects) or ["--export-dynamic"]
+
+    def free(self) -> Module:
+        """A module that says where C's stack and data end, by the linker's own symbol. It is linked again for
+        that, since one more global would be one more variable of the program."""
+        path = f"{self.folder}/free.wasm"
+        done = self.runner.run([*self.linked_by, f"--export={HEAP_BASE}", "-o", path])
+        if done.status:
+            raise self.refused(done, set(), False)
+        return read_module(path)
 
     def refused(self, done: Ran, missing: Set[str], is_small: bool) -> Stop:
         hints = about_symbols(missing)
