@@ -19,6 +19,10 @@ WORDS are clang's and, behind -Wl, wasm-ld's. Besides:
     --public-callers=F,..    calls inside of the module may give public values for secret parameters of F
     --no-assumptions         clang assumes nothing of C, as in units with BLADE_SECRET: for -c of other units
                              beside such
+    --part library|client    hardens one side of an interface (blade part) and makes OUT/NAME.part; of a
+                             library also a stub, OUT/stub/NAME.wasm (blade-stub)
+    --interface FILE         with --part: the interface file
+    --stub STUB.wasm         with --part client: the stub of a library; may be given again
     --unlabelled             nothing is declared secret, and that is meant
     --native                 also writes OUT/native/ (NAME.blade/native/): NAME.c, NAME.h and NAME.o for this
                              machine, if the verdict is yes (blade-native)
@@ -54,13 +58,13 @@ from .verdict.causes import causes_of
 from .ending import ended
 from .verdict.flow import find
 from .witnesses.hunting import after_no, summary
-from .formats.image import read_image
+from .formats.image import Image, read_image
 from .formats.labels import Entry, entries_of
 from .c.lines import Line, Lines, chosen
 from .formats.lowering import LinkedFunction, lower
 from .formats.memories import pages_of, with_free, with_pages
 from .c.paths import shown
-from .formats.certificate import protects_of, read_certificate
+from .formats.certificate import Protect, protects_of, read_certificate
 from .formats.reading import Bad, read_file
 from .c.refusals import refusal
 from .c.callers import Given, gone, public_arguments
@@ -86,6 +90,8 @@ def native_files(folder: str, name: str) -> List[str]:
 class Driver:
     """The steps, in a folder: build/ has what is on the way, refused/ what isn't judged yet or isn't
     constant-time."""
+
+    image_end = "img"
 
     def __init__(self, asked: Asked) -> None:
         self.asked, self.runner = asked, Runner(asked.verbose)
@@ -230,7 +236,7 @@ class Driver:
 
     def refuse_public_arguments(self, modules: List[str]) -> None:
         """What the module's own calls give for a secret parameter is secret in the caller already."""
-        image = read_image(read_file(f"{self.aside}/{self.module}.img", "image"))
+        image = read_image(read_file(f"{self.aside}/{self.module}.{self.image_end}", "image"))
         functions = lower([read_module(path) for path in modules])
         allowed = {number for number, one in enumerate(functions)
                    if is_meant(one.module, one.index, self.asked.public_callers)}
@@ -337,14 +343,21 @@ class Driver:
     def explained(self, modules: List[str], made: str,
                   report: str) -> Tuple[diagnostics.Told, Lines, List[str]]:
         """What is to be told of an image; and where that isn't what the program says."""
-        image = read_image(read_file(f"{made}.img"))
+        image = read_image(read_file(f"{made}.{self.image_end}", "image"))
         functions = lower([read_module(path) for path in modules])
         differ = compare.positions_differ(image, functions)
         lines = Lines([] if differ else functions,
                       Sources([".", *{os.path.dirname(os.path.abspath(one)) for one in self.asked.sources}]))
-        seen, protects = find(image), protects_of(image, read_certificate(read_file(f"{made}.json")))
+        seen, protects = find(image), self.protects(image, made)
         differ += compare.report_differs(seen, protects, report)
         return diagnostics.told_of(seen, lines, causes_of(seen, lines), protects), lines, differ
+
+    def protects(self, image: Image, made: str) -> List[Protect]:
+        return protects_of(image, read_certificate(read_file(f"{made}.json")))
+
+    def explaining(self, made: str) -> List[str]:
+        """The words for blade-explain behind the modules."""
+        return ["--certificate", f"{made}.json", "--report", f"{self.folder}/build/report.txt"]
 
     def make_native(self, made: str, modules: List[str]) -> None:
         """Native code of the image. Its reader of images is in formats/, next to companions/, which nothing
@@ -356,14 +369,13 @@ class Driver:
     def tell(self, told: diagnostics.Told, lines: Lines, modules: List[str], made: str) -> None:
         """The places: as text, as JSON and as SARIF."""
         problems, log = f"{self.folder}/problems.json", f"{self.folder}/{self.module}.sarif"
-        self.runner.show([os.path.join(HERE, "blade-explain"), f"{made}.img", *modules, "--certificate",
-                          f"{made}.json", "--report",
-                          f"{self.folder}/build/report.txt", "--lines", "--json", problems, "--sarif", log,
-                          *self.explained_by])
-        self.put(os.path.basename(problems), sarif.as_json(told, f"{made}.img", modules).encode())
+        image = f"{made}.{self.image_end}"
+        self.runner.show([os.path.join(HERE, "blade-explain"), image, *modules, *self.explaining(made),
+                          "--lines", "--json", problems, "--sarif", log, *self.explained_by])
+        self.put(os.path.basename(problems), sarif.as_json(told, image, modules).encode())
         self.put(os.path.basename(log),
-                 sarif.as_sarif(told, f"{made}.img", modules, lines, os.getcwd(), sarif.version()).encode())
-        for line in diagnostics.as_text(told, shown(f"{made}.img"), self.asked.limit, lines,
+                 sarif.as_sarif(told, image, modules, lines, os.getcwd(), sarif.version()).encode())
+        for line in diagnostics.as_text(told, shown(image), self.asked.limit, lines,
                                         self.asked.everything):
             say(line, sys.stderr)
 
@@ -423,6 +435,13 @@ def write_errors(driver: Optional[Driver], stop: Stop) -> None:
                    sarif.errors_as_sarif(stop.lines, os.getcwd(), sarif.version()).encode())
 
 
+def driver_of(asked: Asked) -> Driver:
+    if asked.part:
+        from .part import PartDriver  # it builds on this module
+        return PartDriver(asked)
+    return Driver(asked)
+
+
 def status_of(words: Sequence[str], usage: str) -> int:
     if not words or words in (["--help"], ["-h"]):
         print(usage, file=sys.stderr if not words else sys.stdout)
@@ -436,7 +455,7 @@ def status_of(words: Sequence[str], usage: str) -> int:
             return Builder(asked, Runner(asked.verbose), "").alone()
         if not asked.sources and not asked.objects:
             raise Stop(USAGE, "blade-cc: error: no file is given")
-        driver = Driver(asked)
+        driver = driver_of(asked)
         status = driver.all()
     except Stop as stop:
         write_errors(driver, stop)

@@ -53,6 +53,9 @@ class Asked:
     blade: Optional[str] = None
     way: Optional[str] = None  # ledger or vault
     pages: Optional[int] = None
+    part: Optional[str] = None  # library or client: one side of an interface
+    interface: str = ""
+    stubs: List[str] = field(default_factory=list)
     limit: int = 20
     everything: bool = False  # the violations of libraries are printed like those of the own sources
     allocator: int = 0  # bytes of the heap of the allocator for verification; 0 without it
@@ -91,6 +94,7 @@ def setters(asked: Asked) -> Dict[str, Callable[[str], None]]:
         "-o": keep("out"), "--name": keep("name"), "--blade": keep("blade"),
         "--label": lambda value: asked.labels.extend(value.split()), "--counts": asked.counts.append,
         "--start": keep("start"), "--keep": asked.keep.append,
+        "--part": keep("part"), "--interface": keep("interface"), "--stub": asked.stubs.append,
         "--public-callers": lambda value: asked.public_callers.extend(value.split(",")),
         "--export": lambda value: asked.links.append(f"--export={value}"),
         "--memory": lambda value: setattr(asked, "pages", number("--memory", value, 256)),
@@ -131,7 +135,25 @@ def asked_by(words: Sequence[str]) -> Asked:
         else:
             plain(asked, word)
     refuse_forbidden(asked.flags + asked.links)
+    refuse_unfit(asked)
     return asked
+
+
+def refuse_unfit(asked: Asked) -> None:
+    """Words that don't go together where a side of an interface is made."""
+    why = ""
+    if asked.part not in (None, "library", "client"):
+        why = f"--part {asked.part}: library or client is due"
+    elif asked.part and not asked.interface:
+        why = f"--part {asked.part} needs --interface FILE"
+    elif asked.part == "client" and not asked.stubs:
+        why = "--part client needs --stub STUB.wasm, which --part library makes"
+    elif asked.part != "client" and asked.stubs or asked.interface and not asked.part:
+        why = "--stub is for --part client, and --interface for --part"
+    elif asked.part and (asked.counts or asked.start or asked.native):
+        why = "--counts, --start and --native are for whole programs, not for --part"
+    if why:
+        raise Stop(USAGE, f"blade-cc: error: {why}")
 
 
 def plain(asked: Asked, word: str) -> None:
