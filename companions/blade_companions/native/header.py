@@ -23,17 +23,16 @@ class Export(NamedTuple):
 
 def heading(emission: Emission, export: Export) -> str:
     """The head of an export's function: parameters by value, results by pointers."""
-    module, name = emission.module, emission.name
+    function, name = emission.image.functions[export.number], emission.name
     words = [f"{name} *m"]
-    kinds = module.parameter_types[export.number]
-    words += [f"{C_TYPES[kind]} {word}" for kind, word in zip(kinds, export.parameters(emission))]
-    words += [f"{C_TYPES[kind]} *r{index}" for index, kind in enumerate(module.result_types[export.number])]
+    words += [f"{C_TYPES[kind]} {word}" for kind, word in zip(function.types, export.parameters(emission))]
+    words += [f"{C_TYPES[kind]} *r{index}" for index, kind in enumerate(function.result_types)]
     return f"{name}_end {name}_{export.word}({', '.join(words)})"
 
 
 def secret_words(emission: Emission, export: Export) -> str:
     """Which parameters are declared secret."""
-    labels = emission.program.functions[export.number].parameters
+    labels = emission.image.functions[export.number].secret_params
     secret = [word for word, is_secret in zip(export.parameters(emission), labels) if is_secret]
     return f"; secret: {', '.join(secret)}" if secret else ""
 
@@ -42,14 +41,14 @@ def header(emission: Emission, exports: List[Export], verdict: str = "not verifi
     """The text of NAME.h."""
     name, upper = emission.name, emission.name.upper()
     ends = ", ".join(f"{upper}_{kind.upper()}" for kind in ("ok", *KINDS, "stack_too_small"))
-    globals_ = len(emission.program.globals)
+    globals_ = len(emission.image.first_globals)
     functions = "\n".join(
         f"/* {one.origin}{secret_words(emission, one)} */\n{heading(emission, one)};" for one in exports
     )
     memories = (
         "\n".join(
-            f"   memory {number}: {one.pages} to {one.reserve} pages{', secret' if one.secret else ''}"
-            for number, one in enumerate(emission.program.memories)
+            f"   memory {number}: {one.pages} to {one.reserve} pages{', secret' if one.is_secret else ''}"
+            for number, one in enumerate(emission.image.memories)
         )
         or "   no memory"
     )
