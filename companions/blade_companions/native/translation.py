@@ -88,22 +88,14 @@ def data(image: Image) -> List[str]:
 
 
 def life(emission: Emission) -> List[str]:
-    """The making, the reset and the end of an instance."""
-    name, memories = emission.name, emission.image.memories
-    numbers = range(len(memories))
+    """The end, the reset and the making of an instance."""
+    name, numbers = emission.name, range(len(emission.image.memories))
+    free = "\n".join(f"    free_memory(m->memory[{at}], m->pages[{at}]);" for at in numbers)
     make = "\n".join(
         f"    m->memory[{at}] = new_memory({one.reserve});\n"
         f"    if (!m->memory[{at}]) {{ {name}_free(m); return NULL; }}"
-        for at, one in enumerate(memories)
+        for at, one in enumerate(emission.image.memories)
     )
-    wipe = "\n".join(f"    wipe(m->memory[{at}], m->pages[{at}] * PAGE);" for at in numbers)
-    begin = "\n".join(
-        [
-            *(f"    m->pages[{at}] = {one.pages}u;" for at, one in enumerate(memories)),
-            *(f"    m->g{at} = UINT64_C({value});" for at, value in enumerate(emission.image.first_globals)),
-        ]
-    )
-    free = "\n".join(f"    free_memory(m->memory[{at}], m->pages[{at}]);" for at in numbers)
     return f"""void {name}_free({name} *m)
 {{
     if (!m) return;
@@ -112,14 +104,7 @@ def life(emission: Emission) -> List[str]:
     free(m);
 }}
 
-void {name}_reset({name} *m)
-{{
-{wipe}
-    wipe(&m->home, sizeof m->home);
-{begin}
-    fill(m);
-}}
-
+{reset(emission)}
 {name} *{name}_new(void)
 {{
     {name} *m = calloc(1, sizeof *m);
@@ -131,6 +116,27 @@ void {name}_reset({name} *m)
 """.split(
         "\n"
     )
+
+
+def reset(emission: Emission) -> str:
+    """What wipes an instance, and gives it its first contents again."""
+    name, image = emission.name, emission.image
+    numbers = range(len(image.memories))
+    wipe = "\n".join(f"    wipe(m->memory[{at}], m->pages[{at}] * PAGE);" for at in numbers)
+    begin = "\n".join(
+        [
+            *(f"    m->pages[{at}] = {one.pages}u;" for at, one in enumerate(image.memories)),
+            *(f"    m->g{at} = UINT64_C({value});" for at, value in enumerate(image.first_globals)),
+        ]
+    )
+    return f"""void {name}_reset({name} *m)
+{{
+{wipe}
+    wipe(&m->home, sizeof m->home);
+{begin}
+    fill(m);
+}}
+"""
 
 
 def entry(emission: Emission, export: Export) -> List[str]:
@@ -174,15 +180,10 @@ def copies(emission: Emission, word: str, kind: str, bytes_: str, line: str) -> 
     return f"{head}\n{{\n{body}\n}}\n"
 
 
-def accessors(emission: Emission) -> List[str]:
-    """The functions on memories and globals, and the texts of ends."""
-    name, memories, types = emission.name, len(emission.image.memories), emission.image.global_types
-    gets = "".join(f"    case {at}: *value = m->g{at}; return 1;\n" for at in range(len(types)))
-    sets = "".join(
-        f"    case {at}: m->g{at} = ({C_TYPES[kind]})value; return 1;\n" for at, kind in enumerate(types)
-    )
+def of_memories(emission: Emission) -> str:
+    """The functions on memories."""
+    name, memories = emission.name, len(emission.image.memories)
     pages = f"memory < {memories}u ? m->pages[memory] : 0" if memories else "0"
-    texts = ", ".join(f'"{text}"' for text in TEXTS)
     read = copies(
         emission, "read", f"const {name}", "void *to", "memcpy(to, m->memory[memory] + offset, size);"
     )
@@ -196,8 +197,17 @@ def accessors(emission: Emission) -> List[str]:
 }}
 
 {read}
-{write}
-int {name}_global(const {name} *m, uint32_t global, uint64_t *value)
+{write}"""
+
+
+def of_globals(emission: Emission) -> str:
+    """The functions on globals."""
+    name, types = emission.name, emission.image.global_types
+    gets = "".join(f"    case {at}: *value = m->g{at}; return 1;\n" for at in range(len(types)))
+    sets = "".join(
+        f"    case {at}: m->g{at} = ({C_TYPES[kind]})value; return 1;\n" for at, kind in enumerate(types)
+    )
+    return f"""int {name}_global(const {name} *m, uint32_t global, uint64_t *value)
 {{
     (void)m; (void)value;
     switch (global) {{
@@ -212,15 +222,19 @@ int {name}_set_global({name} *m, uint32_t global, uint64_t value)
 {sets}    default: return 0;
     }}
 }}
+"""
 
-const char *{name}_end_text({name}_end end)
+
+def accessors(emission: Emission) -> List[str]:
+    """The functions on memories and globals, and the texts of ends."""
+    name, texts = emission.name, ", ".join(f'"{text}"' for text in TEXTS)
+    of_ends = f"""const char *{name}_end_text({name}_end end)
 {{
     static const char *const texts[] = {{{texts}}};
     return (unsigned)end < sizeof texts / sizeof *texts ? texts[end] : "unknown";
 }}
-""".split(
-        "\n"
-    )
+"""
+    return "\n".join([of_memories(emission), of_globals(emission), of_ends]).split("\n")
 
 
 def exports_of(image: Image, origin: Optional[Origin] = None) -> List[Export]:
