@@ -277,7 +277,8 @@ class Runs(unittest.TestCase):
         )
 
     def test_other_targets_compile(self) -> None:
-        """AArch64's barriers are only assembled here; a target without a known barrier is refused."""
+        """AArch64's barriers are written (test_aarch64 runs them); a target without a known barrier is
+        refused."""
         commands = [(SET, 8, ADD, 2, 0, 0), (OUT, 0, 0, 2), (RET,)]
         translation = translate(image_of(image([Function([I32], [I32], 3, commands)])), "tried")
         for ending, text in ((".c", translation.source), (".h", translation.header)):
