@@ -127,9 +127,8 @@ class Builder:
         while True:
             words = [found("wasm-ld"), "--no-entry", "--error-limit=0", *links, *self.memory(pages),
                      *self.asked.links, *exports]
-            whole = [*words, f"--reproduce={self.folder}/inputs.tar", "-o", linked, *objects, *extra]
-            done = self.runner.run(whole)
-            self.linked_by = [*words, "--strip-all", *objects, *extra]
+            self.linked_by = [*words, *objects, *extra]
+            done = self.runner.run([*self.linked_by, f"--reproduce={self.folder}/inputs.tar", "-o", linked])
             missing = set(re.findall(r"undefined symbol: (\S+)", done.errors))
             needed = re.search(r"memory too small, (\d+) bytes needed", done.errors)
             if done.status and missing and not extra:
@@ -137,7 +136,7 @@ class Builder:
             elif done.status and needed and not self.asked.pages and pages == least:
                 pages = -(-int(needed[1]) // PAGE) + 1
             elif done.status:
-                raise self.refused(words, done, missing, needed is not None)
+                raise self.refused(done, missing, needed is not None)
             elif exports or self.asked.is_linked_with("--export") or exports_functions(read_module(linked)):
                 return read_module(linked)
             else:
@@ -147,28 +146,26 @@ class Builder:
         """A module that says where C's stack and data end, by the linker's own symbol. It is linked again for
         that, since one more global would be one more variable of the program."""
         path = f"{self.folder}/free.wasm"
-        done = self.runner.run([*self.linked_by, f"--export={HEAP_BASE}", "-o", path])
+        done = self.runner.run([*self.linked_by, "--strip-all", f"--export={HEAP_BASE}", "-o", path])
         if done.status:
-            raise self.refused(self.linked_by, done, set(), False)
+            raise self.refused(done, set(), False)
         return read_module(path)
 
-    def refused(self, words: List[str], done: Ran, missing: Set[str], is_small: bool) -> Stop:
+    def refused(self, done: Ran, missing: Set[str], is_small: bool) -> Stop:
         """Why the linker refuses the objects. What they lack is told once, with who calls it."""
         told = [line for line in done.errors.splitlines() if not missing or "undefined symbol: " not in line]
         if missing:
-            told += about_symbols(sorted(missing), self.callers(words),
+            told += about_symbols(sorted(missing), self.callers(),
                                   os.path.exists(self.asked.wasi_library()))
         if is_small:
             told.append("blade-cc: note: give more pages by --memory PAGES")
         return Stop(BUILD, *told)
 
-    def callers(self, words: List[str]) -> Dict[str, List[str]]:
+    def callers(self) -> Dict[str, List[str]]:
         """Of each function that no object defines those that call it: the objects are linked once more, with
         these functions as imports."""
         open_end = f"{self.folder}/undefined.wasm"
-        words = [word for word in words if not word.startswith("--reproduce=")]
-        words[words.index("-o") + 1] = open_end
-        done = self.runner.run([*words, "--allow-undefined"])
+        done = self.runner.run([*self.linked_by, "--allow-undefined", "-o", open_end])
         return {} if done.status else callers_of(read_module(open_end))
 
     def inputs(self) -> List[Input]:
