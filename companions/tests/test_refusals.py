@@ -103,8 +103,11 @@ class Refusals(unittest.TestCase):
             os.chdir(folder)
             try:
                 for name, text in HEADERS.items():
-                    told = about_headers(f"x.c:3:10: fatal error: '{name}' file not found\n")
+                    error = f"x.c:3:10: fatal error: '{name}' file not found\n"
+                    told = about_headers(error, False)
                     self.assertEqual(len(told), 1)
                     self.assertIn(f"blade-cc: note: {name} is {text}", told[0])
+                    self.assertEqual("which the wasi-libc here hasn't" in about_headers(error, True)[0],
+                                     "a standard header" in text)
             finally:
                 os.chdir(kept)
