@@ -19,15 +19,23 @@ WORDS are clang's and, behind -Wl, wasm-ld's. Besides:
     --counts [EXPORT=]START  sets protects by the counts of a run from a start file; may be given again
     --start [EXPORT=]START   after a no, looks for two runs from a start file that show the leak, for ten
                              seconds (blade-witness)
+    --keep M:OFFSET:SIZE     with --start: these bytes of the start file are public; may be given again
     --public-callers=F,..    calls inside of the module may give public values for secret parameters of F
     --no-assumptions         clang assumes nothing of C, as in units with BLADE_SECRET: for -c of other units
                              beside such
+    --part library|client    hardens one side of an interface (blade part) and makes OUT/NAME.part; of a
+                             library also a stub, OUT/stub/NAME.wasm (blade-stub)
+    --interface FILE         with --part: the interface file
+    --stub STUB.wasm         with --part client: the stub of a library; may be given again
     --unlabelled             nothing is declared secret, and that is meant
     --native                 also writes OUT/native/ (NAME.blade/native/): NAME.c, NAME.h and NAME.o for this
                              machine, if the verdict is yes (blade-native)
     --no-fail                if the verdict is no, the status is 0 all the same, what is made is kept, and
                              violations are warnings, not errors
     --limit N                prints at most N violations (20)
+    --all                    prints violations in libraries, too; otherwise wasi-libc and each folder outside
+                             the current one is one line with a count
+    --allocator[=BYTES]      malloc and free whose state is not in C's memory, with BYTES of heap (262,144)
     --name NAME              the module's name (that of OUT.wasm or of the only file; of several files that
                              of the folder OUT/)
     --blade PROGRAM          the program (BLADE, else the one of this repository or release, else blade)
@@ -57,13 +65,13 @@ from .verdict.causes import causes_of
 from .ending import ended, is_answered
 from .verdict.flow import find
 from .witnesses.hunting import after_no, summary
-from .formats.image import read_image
+from .formats.image import Image, read_image
 from .formats.labels import Entry, entries_of
 from .c.lines import Line, Lines, chosen
 from .formats.lowering import LinkedFunction, lower
-from .formats.memories import pages_of, with_pages
+from .formats.memories import pages_of, with_free, with_pages
 from .c.paths import shown
-from .formats.certificate import protects_of, read_certificate
+from .formats.certificate import Protect, protects_of, read_certificate
 from .formats.reading import Bad, read_file
 from .c.refusals import refusal
 from .c.callers import Given, gone, public_arguments
@@ -91,6 +99,8 @@ def native_files(folder: str, name: str) -> List[str]:
 class Driver:
     """The steps, in a folder: build/ has what is on the way, refused/ what isn't judged yet or isn't
     constant-time."""
+
+    image_end = "img"
 
     def __init__(self, asked: Asked) -> None:
         self.asked, self.runner = asked, Runner(asked.verbose)
@@ -191,10 +201,11 @@ class Driver:
 
     def label(self, linked: Module, module: Module) -> str:
         asked, to = self.asked, f"{self.aside}/{self.module}.wasm"
+        free = self.builder.free()
         # Of the vault the secrets stand in its own module; where nothing at all is declared, that is said
         # with the verdict.
         self.runner.show([os.path.join(HERE, "blade-label"), module.path, to, *asked.labels, "--unlabelled",
-                          "--linked", linked.path])
+                          "--linked", linked.path, "--free-of", free.path])
         try:
             made, told = with_source(module, asked.labels, False, True, linked)
         except Bad as bad:
@@ -204,7 +215,7 @@ class Driver:
         if errors:
             raise Stop(LABELS, *errors)
         self.where, self.called = dict(told.entries), told.called
-        written_to(to, made)
+        written_to(to, with_free(made, free))
         return to
 
     def accessors(self, labelled: str) -> List[str]:
@@ -239,7 +250,7 @@ class Driver:
 
     def refuse_public_arguments(self, modules: List[str]) -> None:
         """What the module's own calls give for a secret parameter is secret in the caller already."""
-        image = read_image(read_file(f"{self.aside}/{self.module}.img", "image"))
+        image = read_image(read_file(f"{self.aside}/{self.module}.{self.image_end}", "image"))
         functions = lower([read_module(path) for path in modules])
         allowed = {number for number, one in enumerate(functions)
                    if is_meant(one.module, one.index, self.asked.public_callers)}
@@ -347,14 +358,21 @@ class Driver:
     def explained(self, modules: List[str], made: str,
                   report: str) -> Tuple[diagnostics.Told, Lines, List[str]]:
         """What is to be told of an image; and where that isn't what the program says."""
-        image = read_image(read_file(f"{made}.img"))
+        image = read_image(read_file(f"{made}.{self.image_end}", "image"))
         functions = lower([read_module(path) for path in modules])
         differ = compare.positions_differ(image, functions)
         lines = Lines([] if differ else functions,
                       Sources([".", *{os.path.dirname(os.path.abspath(one)) for one in self.asked.sources}]))
-        seen, protects = find(image), protects_of(image, read_certificate(read_file(f"{made}.json")))
+        seen, protects = find(image), self.protects(image, made)
         differ += compare.report_differs(seen, protects, report)
         return diagnostics.told_of(seen, lines, causes_of(seen, lines), protects), lines, differ
+
+    def protects(self, image: Image, made: str) -> List[Protect]:
+        return protects_of(image, read_certificate(read_file(f"{made}.json")))
+
+    def explaining(self, made: str) -> List[str]:
+        """The words for blade-explain behind the modules."""
+        return ["--certificate", f"{made}.json", "--report", f"{self.folder}/build/report.txt"]
 
     def make_native(self, made: str, modules: List[str]) -> None:
         """Native code of the image. Its reader of images is in formats/, next to companions/, which nothing
@@ -366,14 +384,15 @@ class Driver:
     def tell(self, told: diagnostics.Told, lines: Lines, modules: List[str], made: str) -> None:
         """The places: as text, as JSON and as SARIF."""
         problems, log = f"{self.folder}/problems.json", f"{self.folder}/{self.module}.sarif"
-        self.runner.show([os.path.join(HERE, "blade-explain"), f"{made}.img", *modules, "--certificate",
-                          f"{made}.json", "--report",
-                          f"{self.folder}/build/report.txt", "--lines", "--json", problems, "--sarif", log,
+        image = f"{made}.{self.image_end}"
+        self.runner.show([os.path.join(HERE, "blade-explain"), image, *modules, *self.explaining(made),
+                          "--lines", "--json", problems, "--sarif", log,
                           *(["--errors"] * (not self.asked.no_fail)), *self.explained_by])
-        self.put(os.path.basename(problems), sarif.as_json(told, f"{made}.img", modules).encode())
+        self.put(os.path.basename(problems), sarif.as_json(told, image, modules).encode())
         self.put(os.path.basename(log),
-                 sarif.as_sarif(told, f"{made}.img", modules, lines, os.getcwd(), version()).encode())
-        for line in diagnostics.as_text(told, shown(f"{made}.img"), self.asked.limit, lines):
+                 sarif.as_sarif(told, image, modules, lines, os.getcwd(), version()).encode())
+        for line in diagnostics.as_text(told, shown(image), self.asked.limit, lines,
+                                        self.asked.everything):
             say(line, sys.stderr)
 
 
@@ -448,6 +467,13 @@ def clang_version() -> int:
     return YES
 
 
+def driver_of(asked: Asked) -> Driver:
+    if asked.part:
+        from .part import PartDriver  # it builds on this module
+        return PartDriver(asked)
+    return Driver(asked)
+
+
 def status_of(words: Sequence[str], usage: str) -> int:
     if is_answered("blade-cc", words, usage):
         return clang_version() if list(words) == ["--version"] else YES
@@ -463,7 +489,7 @@ def status_of(words: Sequence[str], usage: str) -> int:
             return Builder(asked, Runner(asked.verbose), "").alone()
         if not asked.sources and not asked.objects:
             raise Stop(USAGE, "blade-cc: error: no file is given")
-        driver = Driver(asked)
+        driver = driver_of(asked)
         status = driver.all()
     except Stop as stop:
         write_errors(driver, stop)

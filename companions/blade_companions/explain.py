@@ -103,6 +103,8 @@ def words_of(words: Sequence[str]) -> argparse.Namespace:
     parser.add_argument("--errors", action="store_true",
                         help="calls them errors, as blade-cc does, and not warnings; in SARIF, too")
     parser.add_argument("--limit", metavar="N", type=count, default=20, help="so many of them (20)")
+    parser.add_argument("--all", action="store_true", help="with --lines: those in libraries, too, which are "
+                        "one line each otherwise")
     parser.add_argument("--json", metavar="FILE",
                         help="writes the refused places and the protects for scripts, too")
     parser.add_argument("--sarif", metavar="FILE",
@@ -248,7 +250,7 @@ def tell(words: argparse.Namespace, told: diagnostics.Told, lines: Lines) -> Lis
     if words.sarif:
         write_file(words.sarif, sarif.as_sarif(told, words.image, words.modules, lines,
                                                os.path.abspath(words.root), version()).encode())
-    return list(diagnostics.as_text(told, words.image, words.limit, lines)) if words.lines else []
+    return list(diagnostics.as_text(told, words.image, words.limit, lines, words.all)) if words.lines else []
 
 
 def annotate(words: argparse.Namespace, image: Image, lines: Lines) -> List[str]:

@@ -2,7 +2,7 @@
 Licence: public domain (CC0).
 
     blade-label IN.wasm OUT.wasm [--replace] [--only] [--unlabelled] [--pages-of M.wasm] [--linked
-        LINKED.wasm] [--public-callers F,..] KIND NAME .. KIND NAME ..
+        LINKED.wasm] [--free-of M.wasm] [--public-callers F,..] KIND NAME .. KIND NAME ..
     blade-label IN.wasm OUT.wasm --remove
     blade-label IN.wasm --list
     blade-label IN.wasm --check
@@ -12,7 +12,8 @@ a function and G a global, by the name that it is exported under or has in the n
 with imported ones first; I is the index of a parameter or result, or the parameter's name in C, M that of a
 memory. What the C code declares by the macros of blade.h counts, too, unless --only says that it doesn't. No
 label at all is an error, unless --unlabelled says that this is meant. --pages-of gives the memory as many
-pages as that of M.wasm has: for the modules of accessors.
+pages as that of M.wasm has: for the modules of accessors. --free-of writes down for blade-start where C's
+stack and data end, as the linker says it by the global __heap_base that M.wasm exports.
 
 A section blade.sum keeps a sum over the code that the labels were made for. After another tool (wasm-opt) has
 changed the code they speak of other functions and parameters: --check says so by status 5, and --replace
@@ -30,7 +31,7 @@ from typing import List, Optional, Sequence, Tuple
 
 from .ending import ended, is_answered
 from .formats.labels import entries_of, labelled, listing, refuse_changed, without_labels
-from .formats.memories import pages_of, with_pages
+from .formats.memories import pages_of, with_free, with_pages
 from .formats.reading import Bad
 from .c.callers import called_in
 from .c.declarations import NOTHING, with_source
@@ -52,6 +53,7 @@ def words_of(words: Sequence[str]) -> argparse.Namespace:
         parser.add_argument(flag, action="store_true")
     parser.add_argument("--pages-of")
     parser.add_argument("--linked")
+    parser.add_argument("--free-of")
     parser.add_argument("--public-callers", default="")
     return parser.parse_intermixed_args(words)
 
@@ -110,7 +112,7 @@ def run(words: Sequence[str]) -> int:
         say(line, sys.stderr)
     if errors:
         return LOST
-    write_file(asked.files[1], made)
+    write_file(asked.files[1], with_free(made, read_module(asked.free_of)) if asked.free_of else made)
     return DONE
 
 

@@ -188,4 +188,35 @@ REFUSALS = [
     Case("machine", ["-msimd128"], 2, ["without vectors"], HEAD),
     Case("wrong", [], 3, ["wrong.c:1:8: error:"], "int f( {\n"),
 ]
-CASES = [*LEAKS, *YES, *LABELS, *REFUSALS]
+# What a tool can't know without a run: elements of arrays hold public numbers, pointers and secrets alike.
+ROUNDS = "unknown whether it is secret, since it is an element of an array: one run decides (--start FILE)"
+GUESSES = [
+    Case("element_rounds", MEMORY, 1,
+         [f"element_rounds.c:4:5: note: {ROUNDS}", "if it is public, give it as a parameter",
+          "if it is secret this is a leak: compute without a branch"],
+         "#define NR 60\nvoid element_rounds(const unsigned *rk, unsigned *out) {\n    unsigned n = rk[NR];\n"
+         "    for (unsigned i = 0; i < n; i++) out[i & 3] ^= rk[i & 3];\n}\n"),
+    Case("vector", MEMORY, 1, [f"vector.c:2:41: note: {ROUNDS}", f"vector.c:2:81: note: {ROUNDS}"],
+         "__attribute__((noinline)) static void add(unsigned *to, const unsigned *p, unsigned n) {\n"
+         "                                        for (unsigned i = 0; i < n; i++) *to += p[i];\n}\n"
+         "void vector(unsigned *to, unsigned count, const unsigned **addr, const unsigned *len) {\n"
+         "    for (unsigned i = 0; i < count; i++)\n        add(to, addr[i], len[i]);\n}\n"),
+    Case("order", MEMORY, 1, [ROUNDS, "read all entries, and keep one by a mask"],
+         "unsigned char M[16];\nunsigned order(const unsigned *x) {\n    unsigned s = 0;\n"
+         "    for (int i = 0; i < 16; i++) s += x[M[i]];\n    return s;\n}\n"),
+    Case("walked", MEMORY, 1,
+         ["unknown whether it is secret, since a loop walks over where it is loaded from: one run decides"],
+         "unsigned walked(const unsigned *p, const unsigned *end, const unsigned *x) {\n    unsigned s = 0;\n"
+         "    while (p != end) s += x[*p++];\n    return s;\n}\n"),
+    Case("mixed", MEMORY, 1, ["likely a look-up or a branch by a secret, since it is mixed by xor"],
+         TABLE + "unsigned mixed(const unsigned *s, const unsigned *k, unsigned n) {\n    unsigned x = 0;\n"
+         "    for (unsigned i = 0; i < n; i++) x += table[(s[i] ^ k[i]) & 15];\n    return x;\n}\n"),
+    Case("cut", MEMORY, 1,
+         ["likely a look-up or a branch by a secret, since bits are cut out of it for addresses"],
+         "static const unsigned T[256] = {1, 2, 3};\nvoid cut(unsigned *s, unsigned n) {\n"
+         "    for (unsigned i = 0; i < n; i++) s[i] = T[s[i] & 255];\n}\n"),
+    Case("field", MEMORY, 1, ["likely a public number in a secret memory"],
+         "struct context { unsigned state[4], rounds; };\nvoid field(struct context *c) {\n"
+         "    for (unsigned i = 0; i < c->rounds; i++) c->state[i & 3] += i;\n}\n"),
+]
+CASES = [*LEAKS, *YES, *LABELS, *REFUSALS, *GUESSES]

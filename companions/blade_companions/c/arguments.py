@@ -53,12 +53,18 @@ class Asked:
     start: Optional[str] = None  # a start file for a search after a no, in the same way
     empty_headers: List[str] = field(default_factory=list)  # of --config-h
     sysroot: str = field(default_factory=lambda: os.environ.get("WASI_SYSROOT", "/usr"))
+    keep: List[str] = field(default_factory=list)  # bytes that are public there, M:OFFSET:SIZE
     out: Optional[str] = None
     name: Optional[str] = None
     blade: Optional[str] = None
     way: Optional[str] = None  # ledger or vault
     pages: Optional[int] = None
+    part: Optional[str] = None  # library or client: one side of an interface
+    interface: str = ""
+    stubs: List[str] = field(default_factory=list)
     limit: int = 20
+    everything: bool = False  # the violations of libraries are printed like those of the own sources
+    allocator: int = 0  # bytes of the heap of the allocator for verification; 0 without it
     # labelled functions that may be given public values
     public_callers: List[str] = field(default_factory=list)
     alone: bool = False
@@ -116,7 +122,9 @@ def setters(asked: Asked) -> Dict[str, Callable[[str], None]]:
     return {
         "-o": keep("out"), "--name": keep("name"), "--blade": keep("blade"),
         "--label": lambda value: asked.labels.extend(value.split()), "--counts": asked.counts.append,
-        "--start": keep("start"), "--sysroot": lambda value: sysroot(asked, value),
+        "--start": keep("start"), "--keep": asked.keep.append,
+        "--sysroot": lambda value: sysroot(asked, value),
+        "--part": keep("part"), "--interface": keep("interface"), "--stub": asked.stubs.append,
         "--public-callers": lambda value: asked.public_callers.extend(value.split(",")),
         "--export": lambda value: asked.links.append(f"--export={value}"),
         "--memory": lambda value: setattr(asked, "pages", number("--memory", value, 256)),
@@ -125,10 +133,12 @@ def setters(asked: Asked) -> Dict[str, Callable[[str], None]]:
     }
 
 
+HEAP, MOST_HEAP = 262_144, 16_000_000  # bytes for --allocator
 SWITCHES: Dict[str, Tuple[str, object]] = {
     "--ledger": ("way", "ledger"), "--vault": ("way", "vault"), "--unlabelled": ("unlabelled", True),
     "--no-fail": ("no_fail", True), "--no-assumptions": ("no_assumptions", True),
-    "--native": ("native", True), "-v": ("verbose", True)}
+    "--native": ("native", True), "--all": ("everything", True), "--allocator": ("allocator", HEAP),
+    "-v": ("verbose", True)}
 
 
 def asked_by(words: Sequence[str]) -> Asked:
@@ -148,12 +158,32 @@ def asked_by(words: Sequence[str]) -> Asked:
             values[word](value) if word in values else asked.flags.extend([word, value])
         elif name in values and is_joined and name.startswith("--"):
             values[name](value)
+        elif name == "--allocator" and is_joined:
+            asked.allocator = number(name, value, MOST_HEAP)
         elif word in SWITCHES:
             setattr(asked, *SWITCHES[word])
         else:
             plain(asked, word)
     refuse_forbidden(asked.flags + asked.links)
+    refuse_unfit(asked)
     return asked
+
+
+def refuse_unfit(asked: Asked) -> None:
+    """Words that don't go together where a side of an interface is made."""
+    why = ""
+    if asked.part not in (None, "library", "client"):
+        why = f"--part {asked.part}: library or client is due"
+    elif asked.part and not asked.interface:
+        why = f"--part {asked.part} needs --interface FILE"
+    elif asked.part == "client" and not asked.stubs:
+        why = "--part client needs --stub STUB.wasm, which --part library makes"
+    elif asked.part != "client" and asked.stubs or asked.interface and not asked.part:
+        why = "--stub is for --part client, and --interface for --part"
+    elif asked.part and (asked.counts or asked.start or asked.native):
+        why = "--counts, --start and --native are for whole programs, not for --part"
+    if why:
+        raise Stop(USAGE, f"blade-cc: error: {why}")
 
 
 def plain(asked: Asked, word: str) -> None:

@@ -17,6 +17,7 @@ from .strangers import left_out_words, of_inputs
 from .compiling import TARGET, Compiler
 from .missing import about_symbols, callers_of
 from .tools import INCLUDE, Ran, Runner, found, written_to
+from ..formats.memories import HEAP_BASE
 from ..formats.module import FUNCTION, Module, read_module
 
 # With the stack first a frame that doesn't fit traps; behind the data it would overwrite that.
@@ -25,6 +26,8 @@ PAGE = 65536
 FIRST_PAGES = 3  # one for the stack, one for data, one for the buffers of calls
 MASKS = "blade_secret_mask_"  # what BLADE_SECRET reads
 LIBRARY = ("memcpy", "memmove", "memset", "memcmp")
+ALLOCATOR = ("malloc", "free", "calloc", "realloc", "aligned_alloc", "posix_memalign", "__libc_malloc",
+             "__libc_calloc")
 
 
 class Builder:
@@ -34,6 +37,7 @@ class Builder:
         self.asked, self.runner, self.folder = asked, runner, folder
         self.compiler = Compiler(asked, runner)
         self.opened: List[Input] = []
+        self.linked_by: List[str] = []  # the words of the last link
 
     def alone(self) -> int:
         """What clang does by itself, and objects, which are made as for a module."""
@@ -72,14 +76,19 @@ class Builder:
         return made + self.asked.objects
 
     def library(self, missing: Set[str]) -> List[str]:
-        """What stands in no file that was given: the masks of BLADE_SECRET; the four functions of libc.c,
-        which give way to the sources' own; wasi-libc and clang's own functions, where they are installed.
-        memcmp of wasi-libc stops at the first difference, so that of libc.c goes first."""
+        """What stands in no file that was given: the masks of BLADE_SECRET; the four functions of libc.c, and
+        with --allocator those of allocator.c, which give way to the sources' own; wasi-libc and clang's own
+        functions, where they are installed. memcmp of wasi-libc stops at the first difference, so that of
+        libc.c goes first."""
         source, to = f"{self.folder}/blade-libc.c", f"{self.folder}/blade-libc.o"
-        written_to(source, ("".join(f"#pragma weak {name}\n" for name in LIBRARY)
-                            + f'#include "{INCLUDE}/libc.c"\n#include "{INCLUDE}/masks.c"\n').encode())
-        done = self.runner.run([found("clang"), *TARGET, "-O2", "-fno-builtin", "-fvisibility=hidden", "-c",
-                                "-o", to, source])
+        names, files, words = list(LIBRARY), ["libc.c", "masks.c"], []
+        if self.asked.allocator:
+            names += ALLOCATOR
+            files, words = files + ["allocator.c"], [f"-DBLADE_HEAP={self.asked.allocator}"]
+        written_to(source, "".join([f"#pragma weak {name}\n" for name in names]
+                                   + [f'#include "{INCLUDE}/{name}"\n' for name in files]).encode())
+        done = self.runner.run([found("clang"), *TARGET, "-O2", "-fno-builtin", "-fvisibility=hidden", *words,
+                                "-c", "-o", to, source])
         if done.status:
             raise Stop(BUILD, done.errors)
         if all(name.startswith(MASKS) for name in missing):
@@ -117,9 +126,9 @@ class Builder:
         least = pages = self.asked.pages or FIRST_PAGES
         while True:
             words = [found("wasm-ld"), "--no-entry", "--error-limit=0", *links, *self.memory(pages),
-                     *self.asked.links, *exports, f"--reproduce={self.folder}/inputs.tar", "-o", linked,
-                     *objects, *extra]
-            done = self.runner.run(words)
+                     *self.asked.links, *exports]
+            self.linked_by = [*words, *objects, *extra]
+            done = self.runner.run([*self.linked_by, f"--reproduce={self.folder}/inputs.tar", "-o", linked])
             missing = set(re.findall(r"undefined symbol: (\S+)", done.errors))
             needed = re.search(r"memory too small, (\d+) bytes needed", done.errors)
             if done.status and missing and not extra:
@@ -127,29 +136,36 @@ class Builder:
             elif done.status and needed and not self.asked.pages and pages == least:
                 pages = -(-int(needed[1]) // PAGE) + 1
             elif done.status:
-                raise self.refused(words, done, missing, needed is not None)
+                raise self.refused(done, missing, needed is not None)
             elif exports or self.asked.is_linked_with("--export") or exports_functions(read_module(linked)):
                 return read_module(linked)
             else:
                 exports = self.exports(objects) or ["--export-dynamic"]
 
-    def refused(self, words: List[str], done: Ran, missing: Set[str], is_small: bool) -> Stop:
+    def free(self) -> Module:
+        """A module that says where C's stack and data end, by the linker's own symbol. It is linked again for
+        that, since one more global would be one more variable of the program."""
+        path = f"{self.folder}/free.wasm"
+        done = self.runner.run([*self.linked_by, "--strip-all", f"--export={HEAP_BASE}", "-o", path])
+        if done.status:
+            raise self.refused(done, set(), False)
+        return read_module(path)
+
+    def refused(self, done: Ran, missing: Set[str], is_small: bool) -> Stop:
         """Why the linker refuses the objects. What they lack is told once, with who calls it."""
         told = [line for line in done.errors.splitlines() if not missing or "undefined symbol: " not in line]
         if missing:
-            told += about_symbols(sorted(missing), self.callers(words),
+            told += about_symbols(sorted(missing), self.callers(),
                                   os.path.exists(self.asked.wasi_library()))
         if is_small:
             told.append("blade-cc: note: give more pages by --memory PAGES")
         return Stop(BUILD, *told)
 
-    def callers(self, words: List[str]) -> Dict[str, List[str]]:
+    def callers(self) -> Dict[str, List[str]]:
         """Of each function that no object defines those that call it: the objects are linked once more, with
         these functions as imports."""
         open_end = f"{self.folder}/undefined.wasm"
-        words = [word for word in words if not word.startswith("--reproduce=")]
-        words[words.index("-o") + 1] = open_end
-        done = self.runner.run([*words, "--allow-undefined"])
+        done = self.runner.run([*self.linked_by, "--allow-undefined", "-o", open_end])
         return {} if done.status else callers_of(read_module(open_end))
 
     def inputs(self) -> List[Input]:

@@ -10,7 +10,7 @@ from ..ending import ended, version_line
 from ..formats.reading import Bad
 from ..printing import say
 from ..statuses import GAVE_UP
-from .making import DONE, NO, YES, Building, Image, checks, makes, why_not, write
+from .making import DONE, NO, YES, Building, Given, checks, makes, why_not, write
 from .memchecking import tried
 from .names import identifier, prefix_of
 
@@ -119,18 +119,18 @@ def work(words: Sequence[str]) -> int:
     verdict = verdict_of(given) if given.output else YES
     if verdict is None:
         return NO
-    image, status = Image.at(given.image, given.module), DONE
+    known, status = Given.at(given.image, given.module), DONE
     if given.output:
-        write(image, given.output, verdict)
+        write(known, given.output, verdict)
     if given.object or given.library:
-        status = makes(image, Building(given.cc, given.level, given.library), given.output)
+        status = makes(known, Building(given.cc, given.level, given.library), given.output)
     if given.check:
         if not os.path.isfile(given.check):
             raise Bad(f"there is no {given.check}")
         name = identifier(given.name) if given.name else name_in(given.check)
-        status = max(status, DONE if checks(image, given.check, name) else NO)
+        status = max(status, DONE if checks(known, given.check, name) else NO)
     if given.test:
-        status = max(status, DONE if tried(image, given.test, given.cc, given.level) else NO)
+        status = max(status, DONE if tried(known, given.test, given.cc, given.level) else NO)
     return status
 
 

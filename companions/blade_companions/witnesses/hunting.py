@@ -38,15 +38,16 @@ def after_no(driver: "Driver", told: Told, lines: Lines, modules: Sequence[str],
     for path in (f"{prefix}.{end}" for end in WRITTEN):
         if os.path.exists(path):
             os.remove(path)
-    words = [os.path.join(HERE, "blade-witness"), f"{made}.img", *entry, *modules, "--seconds", SECONDS,
-             "--out", prefix, "--blade", driver.program]
+    kept = [word for one in driver.asked.keep for word in ("--keep", one)]
+    words = [os.path.join(HERE, "blade-witness"), f"{made}.img", *entry, *modules, *kept, "--seconds",
+             SECONDS, "--out", prefix, "--blade", driver.program]
     done = driver.runner.run(words)
     if done.status not in (YES, NO, GAVE_UP) or not done.out:
         said = done.errors.strip() or f"blade-witness ends with status {done.status}"
         raise Stop(USAGE, f"blade-cc: error: --start {driver.asked.start}: {said}")
     image = told.found.image
-    evidence = evidence_of_run(told.found, (), secret_of(image, *entry, (), ()), entry[0], RUN)
-    explained = ["--start", *entry]
+    evidence = evidence_of_run(told.found, (), secret_of(image, *entry, (), driver.asked.keep), entry[0], RUN)
+    explained = ["--start", *entry, *kept]
     evidence.is_searched = done.status != GAVE_UP
     if os.path.exists(f"{prefix}.trace"):
         evidence.witness = read_witness(image, f"{made}.img", prefix, driver.program)

@@ -9,7 +9,7 @@ import tempfile
 import unittest
 from typing import List, Tuple
 
-from outcomes import TOP, blade, module_of
+from outcomes import TOP, blade, image_of
 from images import ARG, CALL, I32, LOAD, OUT, RET, SET, TEST, Function, K, bounded, image
 from test_object import looked_up
 from blade_companions.native.checking import check_object
@@ -179,7 +179,7 @@ class Command(unittest.TestCase):
             self.assertIn(b"\x0f\xae\xe8", data)
             with open(other, "wb") as file:
                 file.write(data.replace(b"\x0f\xae\xe8", b"\x0f\x1f\x00"))
-        findings = check_object(module_of(looked_up()), other, "tried").findings
+        findings = check_object(image_of(looked_up()), other, "tried").findings
         self.assertTrue(any(why in one for one in findings), findings)
 
     # ---- C's stack
