@@ -1,0 +1,26 @@
+/* PBKDF2 with HMAC-SHA-1 of wpa_supplicant. With the changes of pbkdf2.patch the counters, the lengths and the pointers are in the ledger, and the caller
+ * gives the length of the passphrase. Licence: public domain (CC0). */
+#include "wpa.h"
+#ifdef LEDGER
+#include "ledger.h"
+static unsigned passphrase_size;
+#define os_strlen(text) PUB(passphrase_size)
+#else
+#define os_strlen strlen
+size_t strlen(const char *text) {
+    size_t size = 0;
+    while (text[size]) size++;
+    return size;
+}
+#endif
+
+#include "sha1-internal.c"
+#include "sha1.c"
+#include "sha1-pbkdf2.c"
+
+int derive(const char *passphrase, unsigned size, const u8 *ssid, size_t ssid_len, int iterations, u8 *buf, size_t buflen) {
+#ifdef LEDGER
+    SETPUB(passphrase_size, size);
+#endif
+    return pbkdf2_sha1(passphrase, ssid, ssid_len, iterations, buf, buflen);
+}
