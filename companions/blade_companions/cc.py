@@ -9,6 +9,10 @@ where a secret goes. It runs clang, wasm-ld, wasm-opt and blade; -v shows how. L
 WORDS are clang's and, behind -Wl, wasm-ld's. Besides:
     --label 'KIND NAME ..'   labels as blade-label takes them, beside those of blade.h in the sources
     --ledger, --vault        with -DLEDGER or -DVAULT, and the module of the accessors
+    --sysroot FOLDER         where wasi-libc is: FOLDER/include/wasm32-wasi and FOLDER/lib/wasm32-wasi (if not
+                             given, the folder of the variable WASI_SYSROOT, else /usr)
+    --config-h[=NAME.h]      makes an empty config.h, or NAME.h, that counts if no folder of -I has another
+                             one, and says where it is: for code whose configure didn't run
     --memory PAGES           so many pages of memory, first and last (3, or as many as the data takes and one)
     --export NAME            exports this function, and only such (all that the objects give to others,
                              where the code doesn't say)
@@ -26,36 +30,39 @@ WORDS are clang's and, behind -Wl, wasm-ld's. Besides:
     --unlabelled             nothing is declared secret, and that is meant
     --native                 also writes OUT/native/ (NAME.blade/native/): NAME.c, NAME.h and NAME.o for this
                              machine, if the verdict is yes (blade-native)
-    --no-fail                status 0 where the verdict is no, and what is made is kept all the same
-    --limit N                at most so many warnings (20)
-    --all                    warnings of libraries, too: else wasi-libc and whatever stands outside of the
-                             current folder is one line each
-    --allocator[=BYTES]      malloc and free whose state isn't in C's memory, over so many bytes (262,144)
-    --name NAME              the module's name (that of OUT.wasm, or of the only file)
+    --no-fail                if the verdict is no, the status is 0 all the same, what is made is kept, and
+                             violations are warnings, not errors
+    --limit N                prints at most N violations (20)
+    --all                    prints violations in libraries, too; otherwise wasi-libc and each folder outside
+                             the current one is one line with a count
+    --allocator[=BYTES]      malloc and free whose state is not in C's memory, with BYTES of heap (262,144)
+    --name NAME              the module's name (that of OUT.wasm or of the only file; of several files that
+                             of the folder OUT/)
     --blade PROGRAM          the program (BLADE, else the one of this repository or release, else blade)
     -v                       shows each command, as it could be typed
 
 OUT is a file where it has an ending, or where nothing but objects is given; a folder by a / at its end, or
 else. Where the verdict is no, what is made stands in OUT/refused/ alone, and the folder is marked as old, so
 that make doesn't take it for made.
-Status: 0 constant-time; 1 not; 2 usage; 3 clang or the linker failed; 4 a tool is missing or too old; 5 the
-labels aren't right, or there are none; 6 blade refuses the module, or a run for --counts fails; 7 two tools
-don't agree."""
+Status: 0 constant-time; 1 not; 2 usage; 3 clang, the linker or blade refuses the files, or a run for --counts
+fails; 4 gave up: a tool is missing or too old, or two tools don't agree; 5 a label isn't right or was lost,
+or there is none."""
 from __future__ import annotations
 
 import fcntl
 import os
 import shlex
+import subprocess
 import sys
 import tempfile
 from collections import Counter
 from typing import Dict, List, Optional, Sequence, Tuple
 
 from .verdict import compare, diagnostics, sarif, text
-from .c.arguments import BUILD, DISAGREE, LABELS, NO, REFUSED, USAGE, YES, Asked, Stop, asked_by
+from .c.arguments import BUILD, DISAGREE, LABELS, REFUSED, Asked, Stop, asked_by
 from .c.build import Builder
 from .verdict.causes import causes_of
-from .ending import ended
+from .ending import ended, is_answered
 from .verdict.flow import find
 from .witnesses.hunting import after_no, summary
 from .formats.image import Image, read_image
@@ -74,6 +81,8 @@ from .c.sources import Sources
 from .c.tools import HERE, INCLUDE, Ran, Runner, found, program, written_to
 from .formats.module import FUNCTION, Module, module_of, read_module
 from .printing import say
+from .programs import version
+from .statuses import NO, USAGE, YES
 
 STEPS = "4000000000"  # the most of a run that is counted
 MADE = ("wasm", "img", "json")  # of the module: what blade-cc makes where the verdict is yes
@@ -96,7 +105,7 @@ class Driver:
     def __init__(self, asked: Asked) -> None:
         self.asked, self.runner = asked, Runner(asked.verbose)
         self.program = program(asked.blade)
-        self.module = asked.name or asked.base
+        self.module = asked.name or asked.base or "a"
         out = asked.out or f"{self.module}.blade/"
         out = f"./{out}" if out.startswith("-") else out  # no tool takes it for a word
         # A linker's output is a file, and so is what has an ending.
@@ -106,6 +115,11 @@ class Driver:
         self.folder = f"{os.path.splitext(out)[0]}.blade" if self.file else out.rstrip("/")
         if self.file and not asked.name:
             self.module = os.path.splitext(os.path.basename(out))[0]
+        elif asked.out and not asked.name and not asked.base:
+            self.module = name_of_folder(self.folder) or self.module
+        if self.module == asked.way:
+            raise Stop(USAGE, f"blade-cc: error: the module can't be called {self.module}, as that of the "
+                       "accessors is: give it another name by --name NAME")
         self.aside = f"{self.folder}/refused"
         self.where: Dict[Entry, str] = {}  # where labels were declared
         self.called: Dict[Entry, str] = {}  # their parameters as C calls them
@@ -322,6 +336,7 @@ class Driver:
         evidence = None
         if self.asked.start and not is_yes:
             evidence, self.explained_by = after_no(self, told, lines, modules, f"{place}/{self.module}")
+        told.level = diagnostics.WARNING if self.asked.no_fail else diagnostics.ERROR
         self.tell(told, lines, modules, f"{place}/{self.module}")
         if self.asked.native and is_yes:
             self.make_native(f"{place}/{self.module}", modules)
@@ -371,13 +386,20 @@ class Driver:
         problems, log = f"{self.folder}/problems.json", f"{self.folder}/{self.module}.sarif"
         image = f"{made}.{self.image_end}"
         self.runner.show([os.path.join(HERE, "blade-explain"), image, *modules, *self.explaining(made),
-                          "--lines", "--json", problems, "--sarif", log, *self.explained_by])
+                          "--lines", "--json", problems, "--sarif", log,
+                          *(["--errors"] * (not self.asked.no_fail)), *self.explained_by])
         self.put(os.path.basename(problems), sarif.as_json(told, image, modules).encode())
         self.put(os.path.basename(log),
-                 sarif.as_sarif(told, image, modules, lines, os.getcwd(), sarif.version()).encode())
+                 sarif.as_sarif(told, image, modules, lines, os.getcwd(), version()).encode())
         for line in diagnostics.as_text(told, shown(image), self.asked.limit, lines,
                                         self.asked.everything):
             say(line, sys.stderr)
+
+
+def name_of_folder(folder: str) -> str:
+    """The name of a module of several files: that of the folder for what is made."""
+    name = os.path.basename(os.path.abspath(folder))
+    return name[: -len(".blade")] if name.endswith(".blade") else name
 
 
 def is_meant(module: Module, index: int, names: Sequence[str]) -> bool:
@@ -432,7 +454,17 @@ def write_errors(driver: Optional[Driver], stop: Stop) -> None:
     """A log of errors for editors, where the work ended before the places were told."""
     if driver and stop.lines and os.path.isdir(driver.folder):
         written_to(f"{driver.folder}/{driver.module}.sarif",
-                   sarif.errors_as_sarif(stop.lines, os.getcwd(), sarif.version()).encode())
+                   sarif.errors_as_sarif(stop.lines, os.getcwd(), version()).encode())
+
+
+def clang_version() -> int:
+    """clang's own answer behind that of blade-cc: configure scripts look for it."""
+    sys.stdout.flush()
+    try:
+        subprocess.run([found("clang"), "--version"], stdin=subprocess.DEVNULL, check=False)
+    except Stop:
+        pass  # this question needs no clang
+    return YES
 
 
 def driver_of(asked: Asked) -> Driver:
@@ -443,9 +475,11 @@ def driver_of(asked: Asked) -> Driver:
 
 
 def status_of(words: Sequence[str], usage: str) -> int:
-    if not words or words in (["--help"], ["-h"]):
-        print(usage, file=sys.stderr if not words else sys.stdout)
-        return USAGE if not words else YES
+    if is_answered("blade-cc", words, usage):
+        return clang_version() if list(words) == ["--version"] else YES
+    if not words:
+        print(usage, file=sys.stderr)
+        return USAGE
     if words[0] == "--keep-labelled":
         return keep_labelled(words[1:])
     driver, status = None, BUILD
@@ -469,7 +503,7 @@ def status_of(words: Sequence[str], usage: str) -> int:
 
 def main(words: Sequence[str]) -> int:
     # Where nobody reads on, a no still isn't a yes.
-    return ended("blade-cc: error", lambda: status_of(words, __doc__ or ""), BUILD, BUILD)
+    return ended("blade-cc: error", lambda: status_of(words, __doc__ or ""), BUILD)
 
 
 if __name__ == "__main__":

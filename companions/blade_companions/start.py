@@ -30,16 +30,16 @@ from dataclasses import dataclass
 from typing import Dict, List, Sequence, Tuple
 
 from .c.dwarf import Param, subprograms
-from .ending import ended
+from .ending import ended, is_answered
 from .formats.encoding import I32
 from .formats.memories import Layout, layout_of
 from .formats.module import FUNCTION, MEMORY, Module, read_module
 from .formats.reading import LIMITS, Bad, limited, read_file
 from .formats.running import start_text
 from .printing import called, say
+from .statuses import DONE, USAGE
 from .writing import write_file
 
-DONE, USAGE = 0, 2
 UNIT = 16  # the bytes that addresses of buffers are multiples of
 HEAP = frozenset(["dlmalloc", "try_init_allocator", "init_top"])  # functions of wasi-libc's malloc
 WRAPPED = ".command_export"
@@ -237,8 +237,7 @@ def made(asked: argparse.Namespace) -> Tuple[str, List[str]]:
 
 
 def run(words: Sequence[str]) -> int:
-    if list(words) in (["--help"], ["-h"]):
-        print(__doc__)
+    if is_answered("blade-start", words, __doc__ or ""):
         return DONE
     if not words:
         print(__doc__, file=sys.stderr)

@@ -29,11 +29,12 @@ def wide_switch() -> str:
 
 LEAKS = [
     Case("lookup", [], 1,
-         ["lookup.c:5:42: warning: a secret is part of the address of a load", "[blade-load]",
+         ["lookup.c:5:42: error: a secret is part of the address of a load", "[blade-load]",
                            "lookup.c:4: note: parameter index of lookup is declared secret"],
          HEAD + TABLE + "unsigned lookup(unsigned index);\nBLADE_SECRET_PARAM(lookup, index);\nunsigned "
          "lookup(unsigned index) { return table[index & 15]; }\n"),
-    Case("going", ["--no-fail"], 0, ["[blade-load]", "constant-time no"],
+    Case("going", ["--no-fail"], 0,
+         ["going.c:5:27: warning: a secret", "[blade-load]", "constant-time no"],
          HEAD + TABLE + "int going(int x);\nBLADE_SECRET_PARAM(going, x);\nint going(int x) { "
          "return table[x & 15]; }\n"),
     Case("branch", [], 1, ["branch.c:5:", "[blade-branch]"],
@@ -125,29 +126,65 @@ LABELS = [
          "int h(int y) { return g(y) * 2; }\n"),
     Case("nothing", ["--label", "secret-param nothing kye"], 5,
          ["nothing has no parameter kye: do you mean key?"], "int nothing(int key) { return key; }\n"),
+    Case("far", ["--label", "secret-param far 7"], 5,
+         ["error: secret-param far 7: far has 3 parameters in C (counted from 0) [blade-label]"],
+         "int far(int x, int y, int z) { return x + y + z; }\n"),
+    Case("far_by_macro", [], 5,
+         ["far_by_macro.c:3: error: secret-param f 1: f has 1 parameter in C (counted from 0) [blade-label]"],
+         HEAD + "int f(int x);\nBLADE_SECRET_PARAM(f, 1);\nint f(int x) { return x; }\n"),
+    Case("kind", ["--label", "secret-parm kind 0"], 5,
+         ["secret-parm is no kind of label: the kinds are secret-param F I, secret-global G, "
+          "secret-memory M, public-result F I and public-global G"], "int kind(int x) { return x; }\n"),
     Case("nobody", ["--label", "secret-param nobdy 0"], 5, ["no function is called nobdy"],
          "int nobody(int x) { return x; }\n"),
 ]
 REFUSALS = [
-    Case("float", [], 6, ["float.c:4:", "an instruction of floats", "[blade-float]", "in scaled"],
+    Case("float", [], 3, ["float.c:4:", "an instruction of floats", "[blade-float]", "in scaled"],
          HEAD + "BLADE_SECRET_MEMORY;\nint scaled(int a) {\n    double x = a;\n    return "
          "(int)(x * 1.5);\n}\n"),
-    Case("switch", [], 6, ["switch.c:", "300 cases", "[blade-nesting]"], wide_switch()),
-    Case("bulk", [], 6, ["bulk.c:3:", "an operation on whole memories", "[blade-instruction]"],
+    Case("switch", [], 3, ["switch.c:", "300 cases", "[blade-nesting]"], wide_switch()),
+    Case("bulk", [], 3, ["bulk.c:3:", "an operation on whole memories", "[blade-instruction]"],
          HEAD + 'BLADE_SECRET_MEMORY;\n__attribute__((target("bulk-memory"))) void f(char *p, const char *q, '
          'unsigned long n) { __builtin_memcpy(p, q, n); }\n'),
-    Case("import", MEMORY, 6,
+    Case("import", MEMORY, 3,
          ["the function ask is imported from env, which no module gives", "[blade-import]"],
          '__attribute__((import_module("env"), import_name("ask"))) int ask(void);\nint '
          'f(void) { return ask(); }\n'),
-    Case("unledgered", MEMORY, 6, ["compile and link with --ledger", "[blade-import]"],
+    Case("unledgered", MEMORY, 3, ["compile and link with --ledger", "[blade-import]"],
          '__attribute__((import_module("ledger"), import_name("ld32"))) unsigned ld32(unsigned);\nunsigned '
          'f(unsigned *p) { return ld32((unsigned)p); }\n'),
     Case("pages", [*MEMORY, "--memory", "1"], 3, ["memory too small", "--memory PAGES"],
          "unsigned char room[70000] = {1};\nvoid pages(unsigned i) { room[i] = 2; }\n"),
-    Case("heap", [], 3, ["undefined symbol: malloc", "malloc stands in no file that was given", "wasi-libc"],
+    Case("heap", [], 3,
+         ["error: no file that was given defines malloc (called by f) [blade-undefined]",
+          "note: malloc: of the C library: apt-get install wasi-libc has them"],
          HEAD + "void *malloc(unsigned long);\nvoid *f(unsigned n) { return malloc(n); }\n"),
-    Case("header", [], 3, ["'stdio.h' file not found", "apt-get install wasi-libc"], "#include <stdio.h>\n"),
+    Case("undefined", [], 3,
+         ["error: no file that was given defines free (called by f, g), malloc (called by g), mine (called "
+          "by f, g, h and 1 more) [blade-undefined]\nblade-cc: note: free, malloc: of the C library: apt-get",
+          "; mine: name the files or libraries that define them\n"],
+         HEAD + "BLADE_SECRET_MEMORY;\nvoid *malloc(unsigned long);\nvoid free(void *);\nvoid mine(void *);\n"
+         "void f(void *p) { mine(p); free(p); }\nvoid g(int n) { void *p = malloc(n); mine(p); free(p); }\n"
+         "void h(void) { mine(0); }\nvoid i(void) { mine(0); }\n"),
+    Case("header", [], 3,
+         ["'stdio.h' file not found", "note: stdio.h is a standard header: apt-get install wasi-libc has it "
+          "(or --sysroot FOLDER, or the variable WASI_SYSROOT,"], "#include <stdio.h>\n"),
+    Case("unix_header", [], 3, ["note: pthread.h is a header of Unix, which wasi-libc hasn't"],
+         "#include <pthread.h>\n"),
+    Case("configured", [], 3,
+         ["note: config.h is generated: run configure (or cmake) first and name its folder by -I, or say "
+          "--config-h, which makes an empty one and shows where [blade-header]"], '#include "config.h"\n'),
+    Case("config_h", [*MEMORY, "--config-h"], 0,
+         ["note: config.h: config_h/build/config/config.h, which is empty, counts if no folder of -I has",
+          "config_h: constant-time yes"],
+         '#include "config.h"\n#ifdef HAVE_FAST\n#error\n#endif\nint config_h(int x) { return x; }\n'),
+    Case("config_out", [*MEMORY, "--config-h=../x.h"], 2, ["the name of a header as code includes it is due"],
+         "int f(int x) { return x; }\n"),
+    Case("other_header", [], 3,
+         ["note: other.h is a header of the project or of another library: -I FOLDER names where it is"],
+         '#include "other.h"\n'),
+    Case("sysroot", ["--sysroot", "nowhere"], 2, ["--sysroot nowhere: there is no include/wasm32-wasi in it"],
+         "int f(int x) { return x; }\n"),
     Case("machine", ["-msimd128"], 2, ["without vectors"], HEAD),
     Case("wrong", [], 3, ["wrong.c:1:8: error:"], "int f( {\n"),
 ]

@@ -8,13 +8,17 @@ from dataclasses import dataclass, field
 from typing import Callable, Dict, List, Optional, Sequence, Tuple
 
 from ..formats.reading import read_file
+from ..statuses import GAVE_UP, INPUT, LOST, USAGE
 
-YES, NO, USAGE, BUILD, MISSING, LABELS, REFUSED, DISAGREE = range(8)
+# Names of the statuses here: clang, the linker or blade refuses the files, or there is no answer.
+BUILD = REFUSED = INPUT
+MISSING = DISAGREE = GAVE_UP
+LABELS = LOST
 SOURCES = (".c", ".cc", ".cpp", ".cxx", ".C", ".s", ".S", ".i")
 OBJECTS = (".o", ".a", ".obj", ".bc")
 # clang's words that have another one behind them.
 WITH_NEXT = frozenset("-I -D -U -include -isystem -idirafter -iquote -x -Xclang -mllvm -MF -MT -MQ -imacros "
-                      "-isysroot --sysroot -std".split())
+                      "-isysroot -std".split())
 ALONE = frozenset("-c -S -E -M -MM -fsyntax-only -###".split())  # clang does all there is to do
 OTHER_MACHINE = {
     "-mbulk-memory": "operations on whole memories", "-msimd128": "vectors", "-mrelaxed-simd": "vectors",
@@ -47,6 +51,8 @@ class Asked:
     # start files, by EXPORT=FILE where there are several exports
     counts: List[str] = field(default_factory=list)
     start: Optional[str] = None  # a start file for a search after a no, in the same way
+    empty_headers: List[str] = field(default_factory=list)  # of --config-h
+    sysroot: str = field(default_factory=lambda: os.environ.get("WASI_SYSROOT", "/usr"))
     keep: List[str] = field(default_factory=list)  # bytes that are public there, M:OFFSET:SIZE
     out: Optional[str] = None
     name: Optional[str] = None
@@ -71,17 +77,40 @@ class Asked:
     def is_linked_with(self, word: str) -> bool:
         return any(word in one for one in self.links)
 
+    def wasi_headers(self) -> str:
+        """Where the headers of wasi-libc would be: as Debian has them, and wasi-sdk in its own folder."""
+        return f"{self.sysroot}/include/wasm32-wasi"
+
+    def wasi_library(self) -> str:
+        return f"{self.sysroot}/lib/wasm32-wasi/libc.a"
+
     @property
     def base(self) -> str:
-        """The name of what is made, where -o doesn't say it."""
+        """The name of the only file; nothing if there are several."""
         files = self.sources + self.objects
-        return os.path.splitext(os.path.basename(files[0]))[0] if len(files) == 1 else "a"
+        return os.path.splitext(os.path.basename(files[0]))[0] if len(files) == 1 else ""
 
 
 def number(word: str, value: str, most: int) -> int:
     if not value.isdigit() or not 0 < int(value) <= most:
         raise Stop(USAGE, f"blade-cc: error: {word} {value}: a number from 1 to {most} is due")
     return int(value)
+
+
+def sysroot(asked: Asked, folder: str) -> None:
+    """Where wasi-libc is."""
+    asked.sysroot = folder
+    if not os.path.isdir(asked.wasi_headers()):
+        raise Stop(USAGE, f"blade-cc: error: --sysroot {folder}: there is no include/wasm32-wasi in it, as "
+                   "wasi-libc has it")
+
+
+def empty_header(asked: Asked, name: str) -> None:
+    """A header that --config-h names: below the folder for it."""
+    if name.startswith("/") or ".." in name.split("/") or not name.endswith(".h"):
+        raise Stop(USAGE, f"blade-cc: error: --config-h={name}: the name of a header as code includes it is "
+                   "due, without ..")
+    asked.empty_headers.append(name)
 
 
 def setters(asked: Asked) -> Dict[str, Callable[[str], None]]:
@@ -94,6 +123,7 @@ def setters(asked: Asked) -> Dict[str, Callable[[str], None]]:
         "-o": keep("out"), "--name": keep("name"), "--blade": keep("blade"),
         "--label": lambda value: asked.labels.extend(value.split()), "--counts": asked.counts.append,
         "--start": keep("start"), "--keep": asked.keep.append,
+        "--sysroot": lambda value: sysroot(asked, value),
         "--part": keep("part"), "--interface": keep("interface"), "--stub": asked.stubs.append,
         "--public-callers": lambda value: asked.public_callers.extend(value.split(",")),
         "--export": lambda value: asked.links.append(f"--export={value}"),
@@ -161,6 +191,8 @@ def plain(asked: Asked, word: str) -> None:
     if word in ALONE or word.startswith(("-print-", "-dump")) or word == "--version":
         asked.alone = True
         asked.flags.append(word)
+    elif word == "--config-h" or word.startswith("--config-h="):
+        empty_header(asked, word.partition("=")[2] or "config.h")
     elif word.startswith("-Wl,"):
         asked.links += word.split(",")[1:]
     elif word.startswith(("--export-", "--initial-memory=", "--max-memory=", "-L", "-l")):

@@ -6,7 +6,7 @@ import os
 import re
 import subprocess
 import tempfile
-from typing import List, Sequence, Set
+from typing import Dict, List, Sequence, Set
 
 from .arguments import ALONE, BUILD, USAGE, Asked, Stop
 from .dwarf import all_contents
@@ -14,8 +14,8 @@ from .declarations import lines_in
 from .inputs import Input, inputs_in, lines_of, text_of
 from .objects import given_by
 from .strangers import left_out_words, of_inputs
-from .compiling import TARGET, WASI, Compiler
-from .refusals import about_symbols
+from .compiling import TARGET, Compiler
+from .missing import about_symbols, callers_of
 from .tools import INCLUDE, Ran, Runner, found, written_to
 from ..formats.memories import HEAP_BASE
 from ..formats.module import FUNCTION, Module, read_module
@@ -28,7 +28,6 @@ MASKS = "blade_secret_mask_"  # what BLADE_SECRET reads
 LIBRARY = ("memcpy", "memmove", "memset", "memcmp")
 ALLOCATOR = ("malloc", "free", "calloc", "realloc", "aligned_alloc", "posix_memalign", "__libc_malloc",
              "__libc_calloc")
-WASI_LIBRARY = f"{WASI}/lib/wasm32-wasi/libc.a"
 
 
 class Builder:
@@ -60,6 +59,7 @@ class Builder:
             raise Stop(USAGE, "blade-cc: error: -o with several sources, where nothing is linked")
         with tempfile.TemporaryDirectory(prefix="blade-") as folder:
             ending = ".o" if last == "-c" else ".s"
+            self.compiler.empty_headers(f"{folder}/config")
             names = [out or os.path.splitext(os.path.basename(source))[0] + ending for source in sources]
             for number, pair in enumerate(zip(sources, names)):
                 os.mkdir(f"{folder}/{number}")
@@ -71,6 +71,7 @@ class Builder:
         sources = self.asked.sources
         made = [f"{self.folder}/{number}-{os.path.splitext(os.path.basename(source))[0]}.o" for number, source
                 in enumerate(sources)]
+        self.compiler.empty_headers(f"{self.folder}/config")
         self.compiler.compile(list(zip(sources, made)), self.folder)
         return made + self.asked.objects
 
@@ -94,7 +95,7 @@ class Builder:
             return [to]
         own = subprocess.run([found("clang"), "--target=wasm32-wasi", "-print-libgcc-file-name"],
                              capture_output=True, text=True, check=False).stdout.strip()
-        return [to] + [one for one in (WASI_LIBRARY, own) if os.path.exists(one)]
+        return [to] + [one for one in (self.asked.wasi_library(), own) if os.path.exists(one)]
 
     def exports(self, objects: Sequence[str]) -> List[str]:
         """Words that export what other units may call, of the objects themselves: nothing else says what is
@@ -124,10 +125,10 @@ class Builder:
         extra: List[str] = []
         least = pages = self.asked.pages or FIRST_PAGES
         while True:
-            words = [found("wasm-ld"), "--no-entry", *links, *self.memory(pages), *self.asked.links, *exports]
-            done = self.runner.run([*words, f"--reproduce={self.folder}/inputs.tar", "-o", linked, *objects,
-                                    *extra])
-            self.linked_by = [*words, "--strip-all", *objects, *extra]
+            words = [found("wasm-ld"), "--no-entry", "--error-limit=0", *links, *self.memory(pages),
+                     *self.asked.links, *exports]
+            self.linked_by = [*words, *objects, *extra]
+            done = self.runner.run([*self.linked_by, f"--reproduce={self.folder}/inputs.tar", "-o", linked])
             missing = set(re.findall(r"undefined symbol: (\S+)", done.errors))
             needed = re.search(r"memory too small, (\d+) bytes needed", done.errors)
             if done.status and missing and not extra:
@@ -145,16 +146,27 @@ class Builder:
         """A module that says where C's stack and data end, by the linker's own symbol. It is linked again for
         that, since one more global would be one more variable of the program."""
         path = f"{self.folder}/free.wasm"
-        done = self.runner.run([*self.linked_by, f"--export={HEAP_BASE}", "-o", path])
+        done = self.runner.run([*self.linked_by, "--strip-all", f"--export={HEAP_BASE}", "-o", path])
         if done.status:
             raise self.refused(done, set(), False)
         return read_module(path)
 
     def refused(self, done: Ran, missing: Set[str], is_small: bool) -> Stop:
-        hints = about_symbols(missing)
+        """Why the linker refuses the objects. What they lack is told once, with who calls it."""
+        told = [line for line in done.errors.splitlines() if not missing or "undefined symbol: " not in line]
+        if missing:
+            told += about_symbols(sorted(missing), self.callers(),
+                                  os.path.exists(self.asked.wasi_library()))
         if is_small:
-            hints.append("blade-cc: note: give more pages by --memory PAGES")
-        return Stop(BUILD, done.errors.rstrip(), *hints)
+            told.append("blade-cc: note: give more pages by --memory PAGES")
+        return Stop(BUILD, *told)
+
+    def callers(self) -> Dict[str, List[str]]:
+        """Of each function that no object defines those that call it: the objects are linked once more, with
+        these functions as imports."""
+        open_end = f"{self.folder}/undefined.wasm"
+        done = self.runner.run([*self.linked_by, "--allow-undefined", "-o", open_end])
+        return {} if done.status else callers_of(read_module(open_end))
 
     def inputs(self) -> List[Input]:
         """All that the linker opened."""

@@ -20,6 +20,7 @@ MOST_JUDGED = 40  # so many causes get a likely reason
 MANY, MOST_SOURCES = 3, 4  # with more places than that it is told where to begin: so many lines
 MOST_STEPS = 12  # of a way
 CALLED = "call by a secret"
+WARNING, ERROR = "warning", "error"
 
 
 @dataclass(frozen=True)
@@ -102,6 +103,7 @@ class Told:
     # by the positions of problems, what a run and a witness show, in place of what is likely
     observed: Dict[int, str] = field(default_factory=dict)
     witnessed: Optional[int] = None  # the position of the problem that a witness shows
+    level: str = WARNING  # what a violation is called
 
     def also(self, one: Problem) -> str:
         """What is shown of a problem, behind its text."""
@@ -314,11 +316,11 @@ def problem_text(one: Problem) -> str:
 
 
 def as_text(told: Told, image: str, limit: int, lines: Lines, everything: bool = True) -> Iterator[str]:
-    """In the form of compilers: file:line:column: warning: .. [blade-..], with notes for the way. The user's
+    """In the form of compilers: file:line:column: error: .. [blade-..], with notes for the way. The user's
     own sources come first; unless everything is asked for, a library is one line."""
     own, libraries = Owners(lines.sources).parted(told.problems)
     others = [one for library in libraries for one in library.problems]
-    yield from warnings(told, own + others if everything else own, image, limit, lines)
+    yield from violations(told, own + others if everything else own, image, limit, lines)
     for library in [] if everything else libraries:
         yield f"{image}: note: {library.text()}"
     hidden = set() if everything else {one.line.path for one in others}
@@ -327,14 +329,14 @@ def as_text(told: Told, image: str, limit: int, lines: Lines, everything: bool =
                               lines)
 
 
-def warnings(told: Told, problems: Sequence[Problem], image: str, limit: int, lines: Lines) -> Iterator[str]:
+def violations(told: Told, problems: Sequence[Problem], image: str, limit: int, lines: Lines) -> Iterator[str]:
     origins = set()
     for one in problems[:limit]:
         where = spelled(one.line, f"{image}: position {one.position} of {one.function}")
         origin = of_text(one, image)
         again = (origin, one.likely) in origins
         origins.add((origin, one.likely))
-        yield f"{where}: warning: {problem_text(one)}{', ' + origin if again else ''} [{one.rule.name}]"
+        yield f"{where}: {told.level}: {problem_text(one)}{', ' + origin if again else ''} [{one.rule.name}]"
         source = lines.source_as_is(one.line)
         if source.strip():
             yield f" {source}"
@@ -358,7 +360,7 @@ def warnings(told: Told, problems: Sequence[Problem], image: str, limit: int, li
 def beginnings(told: Told, sources: Sequence[Source], image: str, lines: Lines) -> Iterator[str]:
     """Where to mend first."""
     if sources:
-        yield f"{image}: note: begin with what reaches most of the {len(told.found.refused)} refused ends:"
+        yield f"{image}: note: begin with what causes most of the {len(told.found.refused)} violations:"
     for source in sources[:MOST_SOURCES]:
         where = spelled(source.line,
                         f"{image}: position {source.position}" if source.position >= 0 else image)
