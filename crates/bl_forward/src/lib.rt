@@ -11,4 +11,5 @@ mod verdict;
 pub use load::{Forward, Fwd};
 pub use runs::compare_forwarding;
 pub use seen::Seen;
-pub use verdict::{ForwardVerdict, forward_safe};
+pub use bl_sct::Verdict as ForwardVerdict;
+pub use verdict::forward_safe;
