@@ -93,7 +93,7 @@ iface = record { functions = record { name = codes "lib/f"; params = []; results
 
 -- ---- the trees
 
-abbrev function : ℕ → List Instr → Function
+abbrev pub function : ℕ → List Instr → Function
 function index items = record { type_index = index; labels = []; demanded = false ∷ []; code = record { locals = []; items = items }; memory = None; table = None }
 
 abbrev pub stub : Tree
@@ -138,7 +138,7 @@ whole = record {
 
 -- ---- they are parts
 
-one : {A : Type 0} (P : A → Type 0) (x : A) → P x → All P (x ∷ [])
+pub one : {A : Type 0} (P : A → Type 0) (x : A) → P x → All P (x ∷ [])
 one P x h = All-cons P x [] h (All-nil P)
 
 alone : {A : Type 0} (x : A) (i j : ℕ) (a b : A) → slice_get (x ∷ []) i ≡ Some a → slice_get (x ∷ []) j ≡ Some b → i ≡ j
@@ -297,20 +297,22 @@ user_is = is_part (wanted ∷ []) [] (Call 0) (codes "g") 1 (codes "main") main_
 one_part : (part : Part) → IsPart part → AreParts (part ∷ [])
 one_part part is = record { each = one IsPart part is; few = omega arith; distinct = λ i j a b e f same. alone part i j a b e f }
 
--- two of other names
-two_parts : (part other : Part) → IsPart part → IsPart other → (part.name ≡ other.name → ⊥) → AreParts (part ∷ other ∷ [])
-two_parts part other is are apart = record { each = All-cons IsPart part (other ∷ []) is (one IsPart other are); few = omega arith; distinct = distinct }
-  where
-    distinct : (i j : ℕ) (a b : Part) → slice_get (part ∷ other ∷ []) i ≡ Some a → slice_get (part ∷ other ∷ []) j ≡ Some b → a.name ≡ b.name → i ≡ j
-    distinct zero zero a b e f same = refl
-    distinct zero (suc zero) a b e f same = absurd (apart (ap (λ (p : Part). p.name) (same_Some part a e) ∙ same ∙ sym (ap (λ (p : Part). p.name) (same_Some other b f))))
-    distinct zero (suc (suc j)) a b e f same = absurd (none-some b f)
-    distinct (suc zero) zero a b e f same = absurd (apart (ap (λ (p : Part). p.name) (same_Some part b f) ∙ sym same ∙ sym (ap (λ (p : Part). p.name) (same_Some other a e))))
-    distinct (suc zero) (suc zero) a b e f same = refl
-    distinct (suc zero) (suc (suc j)) a b e f same = absurd (none-some b f)
-    distinct (suc (suc i)) j a b e f same = absurd (none-some a e)
+-- two of other names stand apart
+pub two_apart : {A : Type 0} (name : A → List ℕ) (x y : A) → (name x ≡ name y → ⊥) → (i j : ℕ) (a b : A) → slice_get (x ∷ y ∷ []) i ≡ Some a → slice_get (x ∷ y ∷ []) j ≡ Some b
+    → name a ≡ name b → i ≡ j
+two_apart name x y apart zero zero a b e f same = refl
+two_apart name x y apart zero (suc zero) a b e f same = absurd (apart (ap name (same_Some x a e) ∙ same ∙ sym (ap name (same_Some y b f))))
+two_apart name x y apart zero (suc (suc j)) a b e f same = absurd (none-some b f)
+two_apart name x y apart (suc zero) zero a b e f same = absurd (apart (ap name (same_Some x b f) ∙ sym same ∙ sym (ap name (same_Some y a e))))
+two_apart name x y apart (suc zero) (suc zero) a b e f same = refl
+two_apart name x y apart (suc zero) (suc (suc j)) a b e f same = absurd (none-some b f)
+two_apart name x y apart (suc (suc i)) j a b e f same = absurd (none-some a e)
 
-names_apart : codes "lib" ≡ codes "main" → ⊥
+two_parts : (part other : Part) → IsPart part → IsPart other → (part.name ≡ other.name → ⊥) → AreParts (part ∷ other ∷ [])
+two_parts part other is are apart =
+    record { each = All-cons IsPart part (other ∷ []) is (one IsPart other are); few = omega arith; distinct = two_apart (λ (p : Part). p.name) part other apart }
+
+pub names_apart : codes "lib" ≡ codes "main" → ⊥
 names_apart e = let lengths : 3 ≡ 4 = ap (λ (l : List ℕ). length l) e in omega (arith, lengths)
 
 pub linked : AreLinked (stub_part ∷ []) (library_part ∷ []) (user_part ∷ []) stub library client whole
