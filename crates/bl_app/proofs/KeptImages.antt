@@ -1,5 +1,5 @@
 -- The bytes of the worked images are the images of three programs, which are written out.
-use Rattle.std.proofs.Common.{◌≡◌, ℕ, ◌<◌, ◌^◌, List, [], ◌∷◌, ◌++◌, length, drop, false, refl, codes, arith}
+use Rattle.std.proofs.Common.{ℕ, ◌<◌, List, [], ◌∷◌, ◌++◌, length, drop, false, refl, codes, arith}
 use Rattle.bl_base.specs.declared.names.Label.TheVariants.{Public}
 use Rattle.bl_base.specs.declared.names.ValueType.TheVariants.{I32}
 use Rattle.bl_base.specs.declared.trap.Trap.TheVariants as kind
@@ -17,7 +17,7 @@ use Rattle.bl_program.specs.declared.definitions.MemoryDef.{MemoryDef}
 use Rattle.bl_program.specs.declared.definitions.ProgramParts.{ProgramParts as Program}
 use Rattle.bl_wasm.proofs.SpellingLemmas.{after, both}
 use Rattle.bl_format.specs.Grammar.{each, u32, u64, vec}
-use Rattle.bl_format.specs.Image.{command, export, exports, function, global, image, mark, memory, operand, param, text, value_type}
+use Rattle.bl_format.specs.Image.{command, export, exports, function, global, image, mark, memory, operand, param, value_type}
 use Rattle.bl_app.specs.WorkedCalls.{client_image, joined_image, library_image}
 
 -- ---- the programs

@@ -64,7 +64,7 @@ use Rattle.bl_build.specs.InterfaceStages.{IsFileOf, Parted, parting, side_of}
 use Rattle.bl_build.specs.JoinStages.{Sides, are_joined, client_side, joining, library_side, pair_of, sides_of, whole}
 use Rattle.bl_build.specs.LoadStages.{AreLoadable, AreTold, Decodes, IsPassed, LabelledModule, Named, Part, ReadsLabels, loading}
 use Rattle.bl_build.proofs.ModuleFiles.{are_loadable}
-use Rattle.bl_app.specs.JoinJob.{join_job, join_plan}
+use Rattle.bl_app.specs.JoinJob.{join_plan}
 use Rattle.bl_app.specs.JoinedModules.{AreKept, AreLoaded, EndsAsLinked, File, IsWanted, KeepTo, Keeps, Trees, contents_of, join_call, modules_in, numbers_in, part_call}
 use Rattle.bl_app.specs.PartJob.{part_job, part_plan}
 use Rattle.bl_app.specs.WorkedCalls.{AreMet, Returns, client_image, interface_file, joined_image, library_image, library_module, plain_start, stub_file, user_file, worked_calls}

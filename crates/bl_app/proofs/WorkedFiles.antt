@@ -1,5 +1,5 @@
 -- The bytes of the worked modules spell these modules.
-use Rattle.std.proofs.Common.{◌≡◌, ℕ, ◌<◌, List, [], ◌∷◌, ◌++◌, None, inl, inr, refl, codes, length, subst, arith}
+use Rattle.std.proofs.Common.{◌≡◌, ℕ, ◌<◌, List, [], ◌∷◌, ◌++◌, inl, inr, refl, codes, length, subst, arith}
 use Rattle.std.specs.Prelude.{pos}
 use Rattle.std.specs.Str.{IsAscii}
 use Rattle.std.proofs.lemmas.Str.{IsUtf8-from_ascii}
@@ -7,7 +7,7 @@ use Rattle.std.proofs.lemmas.Str.Ascii.{IsAscii-nil, IsAscii-cons}
 use Rattle.bl_leb.specs.Grammar.{Spellings}
 use Rattle.bl_wasm.specs.Instructions.{expression, none, plain}
 use Rattle.bl_wasm.specs.Modules.{Spells, ◌▷◌}
-use Rattle.bl_wasm.specs.Sections.{code_entry, export_entry, import_entry, import_section, local_run, memory_section, section}
+use Rattle.bl_wasm.specs.Sections.{code_entry, export_entry, import_entry, import_section, memory_section, section}
 use Rattle.bl_wasm.specs.Types.{function_type, memory_type, value_type}
 use Rattle.bl_wasm.specs.Values.{name, sized, u32}
 use Rattle.bl_wasm.specs.declared.instruction.Instr.{Instr}
