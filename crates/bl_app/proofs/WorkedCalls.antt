@@ -182,7 +182,7 @@ client_runs = runs (stub_part ∷ user_part ∷ []) client linked.client_parts (
 whole_runs : IsLinked both_linked
 whole_runs = runs (library_part ∷ user_part ∷ []) both_linked linked.whole_parts (All-cons IsSound library_part (user_part ∷ []) library_sound linked.users_sound) linked.whole_is
 
-trees : Trees
+abbrev trees : Trees
 trees = record { stub = stub; client = client; library = library; whole = both_linked }
 
 bytes_are : (bytes : List ℕ) → list_all (λ (byte : ℕ). leb (suc byte) 256) bytes ≡ true → AreBytes bytes
@@ -373,11 +373,11 @@ program = joined (low_tree client) (low_tree library) iface
 program_is : Image program joined_image.bytes
 program_is = record { is_program = joined_is (low_tree client) (low_tree library) iface client_is.is_program library_is.is_program; spelled = joined_spelled }
 
-bare_quiet : (asked : Asked) (program : Program) → IsQuiet asked program → IsQuiet nothing program
-bare_quiet asked program is = record { loads = is.loads; given = λ x h. false≢true h; light = is.light }
+bare_quiet : (asks : Asked) (part : Program) → IsQuiet asks part → IsQuiet nothing part
+bare_quiet asks part is = record { loads = is.loads; given = λ x h. false≢true h; light = is.light }
 
 abbrev Sided : Role → Program → FnIface → Type 0
-Sided role program one = (f : ℕ) → exported program.exports one.name ≡ Some f → KeepsRole role one program none f
+Sided role part one = (f : ℕ) → exported part.exports one.name ≡ Some f → KeepsRole role one part none f
 
 not_transient : (i : ℕ) → ◌≡◌ {A = Option Flow} (slice_get (flow.Stable ∷ []) i) (Some flow.Transient) → ⊥
 not_transient zero e = cc
