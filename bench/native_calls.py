@@ -9,9 +9,9 @@ from typing import Dict, List, NamedTuple, Optional, Tuple
 
 from measuring import TOP, program
 import routines
+from blade_companions.formats.image import Image
 from blade_companions.formats.running import Start
 from blade_companions.native.operators import C_TYPES
-from blade_companions.native.reading import Module
 from blade_companions.native.translation import exports_of
 
 AT, SIZE, RESULT = (
@@ -146,12 +146,11 @@ def arrays(start: Start) -> str:
     )
 
 
-def native_timer(call: Call, module: Module, name: str = "tried") -> str:
+def native_timer(call: Call, image: Image, name: str = "tried") -> str:
     """Times the translated image."""
-    one = next(one for one in exports_of(module) if one.origin == call.export)
-    results = [
-        f"static {C_TYPES[kind]} r{index};" for index, kind in enumerate(module.result_types[one.number])
-    ]
+    one = next(one for one in exports_of(image) if one.origin == call.export)
+    kinds = image.functions[one.number].result_types
+    results = [f"static {C_TYPES[kind]} r{index};" for index, kind in enumerate(kinds)]
     words = [
         "m",
         *(f"UINT64_C({value})" for value in call.start.arguments),

@@ -9,54 +9,69 @@ where a secret goes. It runs clang, wasm-ld, wasm-opt and blade; -v shows how. L
 WORDS are clang's and, behind -Wl, wasm-ld's. Besides:
     --label 'KIND NAME ..'   labels as blade-label takes them, beside those of blade.h in the sources
     --ledger, --vault        with -DLEDGER or -DVAULT, and the module of the accessors
+    --sysroot FOLDER         where wasi-libc is: FOLDER/include/wasm32-wasi and FOLDER/lib/wasm32-wasi (if not
+                             given, the folder of the variable WASI_SYSROOT, else /usr)
+    --config-h[=NAME.h]      makes an empty config.h, or NAME.h, that counts if no folder of -I has another
+                             one, and says where it is: for code whose configure didn't run
     --memory PAGES           so many pages of memory, first and last (3, or as many as the data takes and one)
     --export NAME            exports this function, and only such (all that the objects give to others,
                              where the code doesn't say)
     --counts [EXPORT=]START  sets protects by the counts of a run from a start file; may be given again
     --start [EXPORT=]START   after a no, looks for two runs from a start file that show the leak, for ten
                              seconds (blade-witness)
+    --keep M:OFFSET:SIZE     with --start: these bytes of the start file are public; may be given again
     --public-callers=F,..    calls inside of the module may give public values for secret parameters of F
     --no-assumptions         clang assumes nothing of C, as in units with BLADE_SECRET: for -c of other units
                              beside such
+    --part library|client    hardens one side of an interface (blade part) and makes OUT/NAME.part; of a
+                             library also a stub, OUT/stub/NAME.wasm (blade-stub)
+    --interface FILE         with --part: the interface file
+    --stub STUB.wasm         with --part client: the stub of a library; may be given again
     --unlabelled             nothing is declared secret, and that is meant
     --native                 also writes OUT/native/ (NAME.blade/native/): NAME.c, NAME.h and NAME.o for this
                              machine, if the verdict is yes (blade-native)
-    --no-fail                status 0 where the verdict is no, and what is made is kept all the same
-    --limit N                at most so many warnings (20)
-    --name NAME              the module's name (that of OUT.wasm, or of the only file)
+    --no-fail                if the verdict is no, the status is 0 all the same, what is made is kept, and
+                             violations are warnings, not errors
+    --limit N                prints at most N violations (20)
+    --all                    prints violations in libraries, too; otherwise wasi-libc and each folder outside
+                             the current one is one line with a count
+    --allocator[=BYTES]      malloc and free whose state is not in C's memory, with BYTES of heap (262,144)
+    --name NAME              the module's name (that of OUT.wasm or of the only file; of several files that
+                             of the folder OUT/)
     --blade PROGRAM          the program (BLADE, else the one of this repository or release, else blade)
     -v                       shows each command, as it could be typed
 
 OUT is a file where it has an ending, or where nothing but objects is given; a folder by a / at its end, or
 else. Where the verdict is no, what is made stands in OUT/refused/ alone, and the folder is marked as old, so
 that make doesn't take it for made.
-Status: 0 constant-time; 1 not; 2 usage; 3 clang or the linker failed; 4 a tool is missing or too old; 5 the
-labels aren't right, or there are none; 6 blade refuses the module, or a run for --counts fails; 7 two tools
-don't agree."""
+Status: 0 constant-time; 1 not; 2 usage; 3 clang, the linker or blade refuses the files, or a run for --counts
+fails; 4 gave up: a tool is missing or too old, or two tools don't agree; 5 a label isn't right or was lost,
+or there is none."""
 from __future__ import annotations
 
 import fcntl
 import os
 import shlex
+import subprocess
 import sys
 import tempfile
 from collections import Counter
 from typing import Dict, List, Optional, Sequence, Tuple
 
 from .verdict import compare, diagnostics, sarif, text
-from .c.arguments import BUILD, DISAGREE, LABELS, NO, REFUSED, USAGE, YES, Asked, Stop, asked_by
+from .c.arguments import BUILD, DISAGREE, LABELS, REFUSED, Asked, Stop, asked_by
 from .c.build import Builder
 from .verdict.causes import causes_of
-from .ending import ended
+from .ending import ended, is_answered
 from .verdict.flow import find
 from .witnesses.hunting import after_no, summary
-from .formats.image import read_image
+from .formats.image import Image, read_image
 from .formats.labels import Entry, entries_of
 from .c.lines import Line, Lines, chosen
 from .formats.lowering import LinkedFunction, lower
-from .formats.memories import pages_of, with_pages
+from .formats.memories import pages_of, with_free, with_pages
 from .c.paths import shown
-from .formats.certificate import protects_of, read_certificate
+from .formats.certificate import Protect, protects_of, read_certificate
 from .formats.reading import Bad, read_file
 from .c.refusals import refusal
 from .c.callers import Given, gone, public_arguments
@@ -66,6 +81,8 @@ from .c.sources import Sources
 from .c.tools import HERE, INCLUDE, Ran, Runner, found, program, written_to
 from .formats.module import FUNCTION, Module, module_of, read_module
 from .printing import say
+from .programs import version
+from .statuses import NO, USAGE, YES
 
 STEPS = "4000000000"  # the most of a run that is counted
 MADE = ("wasm", "img", "json")  # of the module: what blade-cc makes where the verdict is yes
@@ -83,10 +100,12 @@ class Driver:
     """The steps, in a folder: build/ has what is on the way, refused/ what isn't judged yet or isn't
     constant-time."""
 
+    image_end = "img"
+
     def __init__(self, asked: Asked) -> None:
         self.asked, self.runner = asked, Runner(asked.verbose)
         self.program = program(asked.blade)
-        self.module = asked.name or asked.base
+        self.module = asked.name or asked.base or "a"
         out = asked.out or f"{self.module}.blade/"
         out = f"./{out}" if out.startswith("-") else out  # no tool takes it for a word
         # A linker's output is a file, and so is what has an ending.
@@ -96,6 +115,11 @@ class Driver:
         self.folder = f"{os.path.splitext(out)[0]}.blade" if self.file else out.rstrip("/")
         if self.file and not asked.name:
             self.module = os.path.splitext(os.path.basename(out))[0]
+        elif asked.out and not asked.name and not asked.base:
+            self.module = name_of_folder(self.folder) or self.module
+        if self.module == asked.way:
+            raise Stop(USAGE, f"blade-cc: error: the module can't be called {self.module}, as that of the "
+                       "accessors is: give it another name by --name NAME")
         self.aside = f"{self.folder}/refused"
         self.where: Dict[Entry, str] = {}  # where labels were declared
         self.called: Dict[Entry, str] = {}  # their parameters as C calls them
@@ -177,10 +201,11 @@ class Driver:
 
     def label(self, linked: Module, module: Module) -> str:
         asked, to = self.asked, f"{self.aside}/{self.module}.wasm"
+        free = self.builder.free()
         # Of the vault the secrets stand in its own module; where nothing at all is declared, that is said
         # with the verdict.
         self.runner.show([os.path.join(HERE, "blade-label"), module.path, to, *asked.labels, "--unlabelled",
-                          "--linked", linked.path])
+                          "--linked", linked.path, "--free-of", free.path])
         try:
             made, told = with_source(module, asked.labels, False, True, linked)
         except Bad as bad:
@@ -190,7 +215,7 @@ class Driver:
         if errors:
             raise Stop(LABELS, *errors)
         self.where, self.called = dict(told.entries), told.called
-        written_to(to, made)
+        written_to(to, with_free(made, free))
         return to
 
     def accessors(self, labelled: str) -> List[str]:
@@ -225,7 +250,7 @@ class Driver:
 
     def refuse_public_arguments(self, modules: List[str]) -> None:
         """What the module's own calls give for a secret parameter is secret in the caller already."""
-        image = read_image(read_file(f"{self.aside}/{self.module}.img", "image"))
+        image = read_image(read_file(f"{self.aside}/{self.module}.{self.image_end}", "image"))
         functions = lower([read_module(path) for path in modules])
         allowed = {number for number, one in enumerate(functions)
                    if is_meant(one.module, one.index, self.asked.public_callers)}
@@ -311,6 +336,7 @@ class Driver:
         evidence = None
         if self.asked.start and not is_yes:
             evidence, self.explained_by = after_no(self, told, lines, modules, f"{place}/{self.module}")
+        told.level = diagnostics.WARNING if self.asked.no_fail else diagnostics.ERROR
         self.tell(told, lines, modules, f"{place}/{self.module}")
         if self.asked.native and is_yes:
             self.make_native(f"{place}/{self.module}", modules)
@@ -332,14 +358,21 @@ class Driver:
     def explained(self, modules: List[str], made: str,
                   report: str) -> Tuple[diagnostics.Told, Lines, List[str]]:
         """What is to be told of an image; and where that isn't what the program says."""
-        image = read_image(read_file(f"{made}.img"))
+        image = read_image(read_file(f"{made}.{self.image_end}", "image"))
         functions = lower([read_module(path) for path in modules])
         differ = compare.positions_differ(image, functions)
         lines = Lines([] if differ else functions,
                       Sources([".", *{os.path.dirname(os.path.abspath(one)) for one in self.asked.sources}]))
-        seen, protects = find(image), protects_of(image, read_certificate(read_file(f"{made}.json")))
+        seen, protects = find(image), self.protects(image, made)
         differ += compare.report_differs(seen, protects, report)
         return diagnostics.told_of(seen, lines, causes_of(seen, lines), protects), lines, differ
+
+    def protects(self, image: Image, made: str) -> List[Protect]:
+        return protects_of(image, read_certificate(read_file(f"{made}.json")))
+
+    def explaining(self, made: str) -> List[str]:
+        """The words for blade-explain behind the modules."""
+        return ["--certificate", f"{made}.json", "--report", f"{self.folder}/build/report.txt"]
 
     def make_native(self, made: str, modules: List[str]) -> None:
         """Native code of the image. Its reader of images is in formats/, next to companions/, which nothing
@@ -351,15 +384,22 @@ class Driver:
     def tell(self, told: diagnostics.Told, lines: Lines, modules: List[str], made: str) -> None:
         """The places: as text, as JSON and as SARIF."""
         problems, log = f"{self.folder}/problems.json", f"{self.folder}/{self.module}.sarif"
-        self.runner.show([os.path.join(HERE, "blade-explain"), f"{made}.img", *modules, "--certificate",
-                          f"{made}.json", "--report",
-                          f"{self.folder}/build/report.txt", "--lines", "--json", problems, "--sarif", log,
-                          *self.explained_by])
-        self.put(os.path.basename(problems), sarif.as_json(told, f"{made}.img", modules).encode())
+        image = f"{made}.{self.image_end}"
+        self.runner.show([os.path.join(HERE, "blade-explain"), image, *modules, *self.explaining(made),
+                          "--lines", "--json", problems, "--sarif", log,
+                          *(["--errors"] * (not self.asked.no_fail)), *self.explained_by])
+        self.put(os.path.basename(problems), sarif.as_json(told, image, modules).encode())
         self.put(os.path.basename(log),
-                 sarif.as_sarif(told, f"{made}.img", modules, lines, os.getcwd(), sarif.version()).encode())
-        for line in diagnostics.as_text(told, shown(f"{made}.img"), self.asked.limit, lines):
+                 sarif.as_sarif(told, image, modules, lines, os.getcwd(), version()).encode())
+        for line in diagnostics.as_text(told, shown(image), self.asked.limit, lines,
+                                        self.asked.everything):
             say(line, sys.stderr)
+
+
+def name_of_folder(folder: str) -> str:
+    """The name of a module of several files: that of the folder for what is made."""
+    name = os.path.basename(os.path.abspath(folder))
+    return name[: -len(".blade")] if name.endswith(".blade") else name
 
 
 def is_meant(module: Module, index: int, names: Sequence[str]) -> bool:
@@ -414,13 +454,32 @@ def write_errors(driver: Optional[Driver], stop: Stop) -> None:
     """A log of errors for editors, where the work ended before the places were told."""
     if driver and stop.lines and os.path.isdir(driver.folder):
         written_to(f"{driver.folder}/{driver.module}.sarif",
-                   sarif.errors_as_sarif(stop.lines, os.getcwd(), sarif.version()).encode())
+                   sarif.errors_as_sarif(stop.lines, os.getcwd(), version()).encode())
+
+
+def clang_version() -> int:
+    """clang's own answer behind that of blade-cc: configure scripts look for it."""
+    sys.stdout.flush()
+    try:
+        subprocess.run([found("clang"), "--version"], stdin=subprocess.DEVNULL, check=False)
+    except Stop:
+        pass  # this question needs no clang
+    return YES
+
+
+def driver_of(asked: Asked) -> Driver:
+    if asked.part:
+        from .part import PartDriver  # it builds on this module
+        return PartDriver(asked)
+    return Driver(asked)
 
 
 def status_of(words: Sequence[str], usage: str) -> int:
-    if not words or words in (["--help"], ["-h"]):
-        print(usage, file=sys.stderr if not words else sys.stdout)
-        return USAGE if not words else YES
+    if is_answered("blade-cc", words, usage):
+        return clang_version() if list(words) == ["--version"] else YES
+    if not words:
+        print(usage, file=sys.stderr)
+        return USAGE
     if words[0] == "--keep-labelled":
         return keep_labelled(words[1:])
     driver, status = None, BUILD
@@ -430,7 +489,7 @@ def status_of(words: Sequence[str], usage: str) -> int:
             return Builder(asked, Runner(asked.verbose), "").alone()
         if not asked.sources and not asked.objects:
             raise Stop(USAGE, "blade-cc: error: no file is given")
-        driver = Driver(asked)
+        driver = driver_of(asked)
         status = driver.all()
     except Stop as stop:
         write_errors(driver, stop)
@@ -444,7 +503,7 @@ def status_of(words: Sequence[str], usage: str) -> int:
 
 def main(words: Sequence[str]) -> int:
     # Where nobody reads on, a no still isn't a yes.
-    return ended("blade-cc: error", lambda: status_of(words, __doc__ or ""), BUILD, BUILD)
+    return ended("blade-cc: error", lambda: status_of(words, __doc__ or ""), BUILD)
 
 
 if __name__ == "__main__":

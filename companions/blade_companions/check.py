@@ -7,20 +7,20 @@ questions by yes. Licence: public domain (CC0).
 and the protects. This tool prints what `verify` printed, and says which answers are no.
 
 It ends with 0 if the certificate, the protects, the labels and both together are right; 1 if an answer is no;
-2 for a wrong call; 3 for a file that can't be read, or if there is no blade; any other number is that of
-`blade verify`."""
+2 for a wrong call; 3 for a file that can't be read; 4 if there is no blade, or if it was killed; any other
+number is that of `blade verify` (12: the image is no image, 13: the certificate is none)."""
 from __future__ import annotations
 
 import subprocess
 import sys
 from typing import List, Optional, Sequence, Tuple
 
-from .ending import ended
+from .ending import ended, is_answered
 from .formats.reading import Bad
 from .printing import say
+from .statuses import GAVE_UP, NO, USAGE, YES
 from .witnesses.program import program_of
 
-YES, NO, USAGE, UNREAD = 0, 1, 2, 3
 # What verify answers, in its order, and what a no means.
 ANSWERS = {
     "certificate": "the certificate doesn't show that no cheaper set of protects is safe",
@@ -63,8 +63,7 @@ def refused_answers(program: Optional[str], image: str, certificate: str) -> Lis
 
 
 def run(words: Sequence[str]) -> int:
-    if list(words) in (["--help"], ["-h"]):
-        print(__doc__)
+    if is_answered("blade-check", words, __doc__):
         return YES
     given = operands(words)
     if given is None:
@@ -76,7 +75,7 @@ def run(words: Sequence[str]) -> int:
     sys.stdout.write(done.stdout)
     sys.stdout.flush()
     if done.returncode not in (YES, NO):
-        return done.returncode if done.returncode > 0 else UNREAD
+        return done.returncode if done.returncode > 0 else GAVE_UP
     no = [name for name, is_yes in answers(done.stdout) if not is_yes]
     for name in no:
         say(f"blade-check: no: {name}: {ANSWERS[name]}", sys.stderr)
@@ -85,7 +84,7 @@ def run(words: Sequence[str]) -> int:
 
 def main(words: Sequence[str]) -> int:
     # If nobody reads on, a no still isn't a yes.
-    return ended("blade-check", lambda: run(words), UNREAD, UNREAD)
+    return ended("blade-check", lambda: run(words), GAVE_UP)
 
 
 if __name__ == "__main__":

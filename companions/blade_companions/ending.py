@@ -6,12 +6,12 @@ import os
 import signal
 import sys
 import threading
-from typing import Any, Callable, Optional
+from typing import Any, Callable, Optional, Sequence
 
 from .formats.reading import Bad
 from .printing import say
-
-DONE, UNREAD, INTERRUPTED = 0, 3, 130
+from .programs import version
+from .statuses import DONE, INPUT, INTERRUPTED
 
 
 def why(fault: BaseException) -> str:
@@ -26,6 +26,22 @@ def why(fault: BaseException) -> str:
     return f"what is read here isn't as it should be ({type(fault).__name__})"
 
 
+def version_line(name: str) -> str:
+    """What a tool prints for --version."""
+    return f"{name} {version()}"
+
+
+def is_answered(name: str, words: Sequence[str], usage: str) -> bool:
+    """Prints the help or the version, if nothing else is asked for; whether that was so."""
+    if list(words) in (["--help"], ["-h"]):
+        print(usage)
+    elif list(words) == ["--version"]:
+        print(version_line(name))
+    else:
+        return False
+    return True
+
+
 def leave(*streams: int) -> None:
     """Nobody reads on: what is still to be written is dropped."""
     nothing = os.open(os.devnull, os.O_WRONLY)
@@ -38,7 +54,7 @@ def flush() -> None:
         sys.stdout.flush()
 
 
-def status_of(name: str, work: Callable[[], Optional[int]], unread: int) -> int:
+def status_of(name: str, work: Callable[[], Optional[int]]) -> int:
     try:
         try:
             status = work()
@@ -49,12 +65,13 @@ def status_of(name: str, work: Callable[[], Optional[int]], unread: int) -> int:
     except (BrokenPipeError, KeyboardInterrupt):
         raise
     except Exception as fault:  # whatever a file has led to
+        status = fault.status if isinstance(fault, Bad) else INPUT
         say(f"{name}: {why(fault)}", sys.stderr)
     try:
         flush()
     except OSError:
         leave(1)
-    return unread
+    return status
 
 
 def interrupts(handler: Any) -> None:
@@ -63,16 +80,16 @@ def interrupts(handler: Any) -> None:
         signal.signal(signal.SIGINT, handler)
 
 
-def ended(name: str, work: Callable[[], Optional[int]], unread: int = UNREAD, closed: int = DONE) -> int:
+def ended(name: str, work: Callable[[], Optional[int]], closed: int = DONE) -> int:
     """The status that work comes to. A file that isn't as it should be is told in one line, with a status of
-    its own; so is a pipe that is closed, which is no fault unless it is said so."""
+    its own. A pipe that is closed is no fault unless it is said so."""
     for stream in (sys.stdout, sys.stderr):
         if hasattr(stream, "reconfigure"):
             stream.reconfigure(errors="backslashreplace")
     before = signal.getsignal(signal.SIGINT)
     try:
         interrupts(signal.default_int_handler)
-        return status_of(name, work, unread)
+        return status_of(name, work)
     except BrokenPipeError:
         leave(1, 2)
         return closed

@@ -6,7 +6,8 @@ judge: give its report by --report, and what is told is compared with it. Licenc
     positions blade-explain MODULE .. --list                all instructions of modules, with positions
 
 It ends with 0; 1 where the program's report or the image's commands differ from what is told here; 2 for
-words that it doesn't know; 3 for files that it can't read."""
+words that it doesn't know; 3 for files that it can't read or write; 4 if there is no blade for --witness; 5
+if a module was changed after it was labelled."""
 from __future__ import annotations
 
 import argparse
@@ -17,7 +18,7 @@ from typing import List, Optional, Sequence, Tuple
 from .verdict import compare, diagnostics, page, sarif, text
 from .formats import metadata
 from .verdict.causes import Cause, add_ends, causes_of
-from .ending import ended
+from .ending import ended, version_line
 from .verdict.evidence import RUN, Evidence, evidence_of_run, read_witness, secret_of
 from .verdict.flow import Findings, find
 from .verdict.guesses import Guesser, settle
@@ -31,9 +32,11 @@ from .c.declarations import declared
 from .c.sources import Sources
 from .formats.module import read_module
 from .printing import say
+from .programs import version
+from .statuses import DONE, NO
 from .writing import write_file
 
-DONE, DIFFERS, USAGE, UNREAD = 0, 1, 2, 3
+DIFFERS = NO
 JUDGED = 400  # so many causes of a page get a likely reason
 WORK = 4_000_000  # so many variables are gone through for them
 
@@ -62,7 +65,9 @@ def words_of(words: Sequence[str]) -> argparse.Namespace:
         description="Tells by lines of C why an image isn't constant-time, and what its protects are for.",
         epilog="It ends with 0; 1 where the program's report or the image's commands differ from what is "
         "told here; 2 for words that it doesn't know; "
-               "3 for files that it can't read or write.")
+               "3 for files that it can't read or write; 4 if there is no blade for --witness; "
+               "5 if a module was changed after it was labelled.")
+    parser.add_argument("--version", action="version", version=version_line("blade-explain"))
     parser.add_argument("image", metavar="IMAGE")
     parser.add_argument("modules", metavar="MODULE", nargs="*",
                         help="the modules of the image in harden's order, best linked with -g")
@@ -85,16 +90,21 @@ def words_of(words: Sequence[str]) -> argparse.Namespace:
     parser.add_argument("--run", metavar="N", type=count, default=RUN,
                         help="with --start: so many commands are followed (1,000,000)")
     parser.add_argument("--witness", metavar="PREFIX",
-                        help="judges what blade-witness wrote again, and marks the end")
+                        help="judges what blade-witness wrote again, and marks the place")
     parser.add_argument("--blade", metavar="PROGRAM", help="the program, for --witness (BLADE, else the one "
                         "that is built here, else blade)")
     parser.add_argument("--causes", metavar="N", type=count, default=3,
                         help="so many causes are told in detail (3)")
-    parser.add_argument("--ways", metavar="N", type=count, default=1, help="so many ends of each (1)")
+    parser.add_argument("--ways", metavar="N", type=count, default=1,
+                        help="prints N violations of each cause (1)")
     parser.add_argument("--page", metavar="FILE", help="writes a page for the browser, too")
     parser.add_argument("--lines", action="store_true",
                         help="tells the refused places in the form of compilers, instead of the text")
+    parser.add_argument("--errors", action="store_true",
+                        help="calls them errors, as blade-cc does, and not warnings; in SARIF, too")
     parser.add_argument("--limit", metavar="N", type=count, default=20, help="so many of them (20)")
+    parser.add_argument("--all", action="store_true", help="with --lines: those in libraries, too, which are "
+                        "one line each otherwise")
     parser.add_argument("--json", metavar="FILE",
                         help="writes the refused places and the protects for scripts, too")
     parser.add_argument("--sarif", metavar="FILE",
@@ -224,6 +234,7 @@ def write_all(words: argparse.Namespace, found: Findings, causes: List[Cause], p
     said = annotate(words, found.image, lines) if words.annotate else []
     if words.lines or words.json or words.sarif:
         listed = diagnostics.told_of(found, lines, causes, protects)
+        listed.level = diagnostics.ERROR if words.errors else diagnostics.WARNING
         if evidence:
             evidence.mark_problems(listed, lines)
         said += tell(words, listed, lines)
@@ -238,8 +249,8 @@ def tell(words: argparse.Namespace, told: diagnostics.Told, lines: Lines) -> Lis
         write_file(words.json, sarif.as_json(told, words.image, words.modules).encode())
     if words.sarif:
         write_file(words.sarif, sarif.as_sarif(told, words.image, words.modules, lines,
-                                               os.path.abspath(words.root), sarif.version()).encode())
-    return list(diagnostics.as_text(told, words.image, words.limit, lines)) if words.lines else []
+                                               os.path.abspath(words.root), version()).encode())
+    return list(diagnostics.as_text(told, words.image, words.limit, lines, words.all)) if words.lines else []
 
 
 def annotate(words: argparse.Namespace, image: Image, lines: Lines) -> List[str]:
@@ -269,7 +280,7 @@ def run(words: argparse.Namespace) -> int:
 
 
 def main(words: Sequence[str]) -> int:
-    return ended("blade-explain", lambda: run(words_of(words)), UNREAD)
+    return ended("blade-explain", lambda: run(words_of(words)))
 
 
 if __name__ == "__main__":

@@ -2,7 +2,7 @@
 Licence: public domain (CC0).
 
     blade-label IN.wasm OUT.wasm [--replace] [--only] [--unlabelled] [--pages-of M.wasm] [--linked
-        LINKED.wasm] [--public-callers F,..] KIND NAME .. KIND NAME ..
+        LINKED.wasm] [--free-of M.wasm] [--public-callers F,..] KIND NAME .. KIND NAME ..
     blade-label IN.wasm OUT.wasm --remove
     blade-label IN.wasm --list
     blade-label IN.wasm --check
@@ -12,33 +12,34 @@ a function and G a global, by the name that it is exported under or has in the n
 with imported ones first; I is the index of a parameter or result, or the parameter's name in C, M that of a
 memory. What the C code declares by the macros of blade.h counts, too, unless --only says that it doesn't. No
 label at all is an error, unless --unlabelled says that this is meant. --pages-of gives the memory as many
-pages as that of M.wasm has: for the modules of accessors.
+pages as that of M.wasm has: for the modules of accessors. --free-of writes down for blade-start where C's
+stack and data end, as the linker says it by the global __heap_base that M.wasm exports.
 
 A section blade.sum keeps a sum over the code that the labels were made for. After another tool (wasm-opt) has
-changed the code they speak of other functions and parameters: --check says so by status 3, and --replace
+changed the code they speak of other functions and parameters: --check says so by status 5, and --replace
 labels anew.
 
 A parameter's label is one of the function's code. Where clang inlines the function there is no such code, and
 what it is given there is public: keep it by __attribute__((noinline)), as the macros do, or declare the
 parameter of the function that is called from outside.
 
-It ends with 0; 1 where the labels aren't right, and nothing is written; 2 for words that it doesn't know; 3
-for files that it can't read or write."""
+It ends with 0; 2 for words that it doesn't know; 3 for files that it can't read or write; 5 if a label isn't
+right or was lost, and then nothing is written."""
 import argparse
 import sys
 from typing import List, Optional, Sequence, Tuple
 
-from .ending import ended
+from .ending import ended, is_answered
 from .formats.labels import entries_of, labelled, listing, refuse_changed, without_labels
-from .formats.memories import pages_of, with_pages
+from .formats.memories import pages_of, with_free, with_pages
 from .formats.reading import Bad
 from .c.callers import called_in
 from .c.declarations import NOTHING, with_source
 from .formats.module import Module, module_of, read_module
 from .printing import say
+from .statuses import DONE, LOST, USAGE
 from .writing import write_file
 
-DONE, WRONG, USAGE = 0, 1, 2
 NOTE = ("blade-label: note: a parameter's label holds for calls from outside: "
         "a compiler may have inlined the function, or computed its result, elsewhere in the "
         "module; blade-cc keeps it from that")
@@ -52,6 +53,7 @@ def words_of(words: Sequence[str]) -> argparse.Namespace:
         parser.add_argument(flag, action="store_true")
     parser.add_argument("--pages-of")
     parser.add_argument("--linked")
+    parser.add_argument("--free-of")
     parser.add_argument("--public-callers", default="")
     return parser.parse_intermixed_args(words)
 
@@ -90,8 +92,7 @@ def called_inside(module: Module, meant: Sequence[str]) -> List[str]:
 
 
 def run(words: Sequence[str]) -> int:
-    if list(words) in (["--help"], ["-h"]):
-        print(__doc__)
+    if is_answered("blade-label", words, __doc__):
         return DONE
     asked = words_of(words)
     if asked.list and len(asked.files) == 1:
@@ -110,8 +111,8 @@ def run(words: Sequence[str]) -> int:
     for line in errors + warnings:
         say(line, sys.stderr)
     if errors:
-        return WRONG
-    write_file(asked.files[1], made)
+        return LOST
+    write_file(asked.files[1], with_free(made, read_module(asked.free_of)) if asked.free_of else made)
     return DONE
 
 

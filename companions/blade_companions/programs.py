@@ -9,6 +9,16 @@ from typing import Optional
 TOP = os.path.dirname(os.path.dirname(os.path.dirname(os.path.realpath(__file__))))
 
 
+def version() -> str:
+    """That of the program: VERSION stands above companions/ in a clone, in a release and where one is
+    installed."""
+    try:
+        with open(os.path.join(TOP, "VERSION"), encoding="ascii") as file:
+            return file.read().strip()
+    except OSError:
+        return "unknown"
+
+
 def ready_program() -> Optional[str]:
     """The program of this release; or of this clone, if it is built or dist/ holds it
     (tools/building/program). Nothing is built here."""

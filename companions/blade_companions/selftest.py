@@ -7,7 +7,8 @@ its library, and searches for a leak. It compares each answer with one that is k
 a list, or a sample that leaks by design. If clang and its linker are installed, it also goes from C to a
 verdict. In an installed copy it first compares all files with their checksums.
 
-It prints a line for each test, and ends with 0 if all are right, 1 if one is wrong, 2 for a wrong call.
+It prints a line for each test, and ends with 0 if all are right, 1 if one is wrong, 2 for a wrong call, 4 if
+there is no program.
 Tests whose tool is missing are skipped, and named."""
 from __future__ import annotations
 
@@ -18,10 +19,11 @@ import sys
 import tempfile
 from typing import Callable, Dict, List, Sequence, Tuple
 
-from .ending import ended
+from .ending import ended, is_answered
 from .programs import TOP, ready_program
+from .statuses import GAVE_UP, USAGE
 
-RIGHT, WRONG, USAGE, UNREAD = 0, 1, 2, 3
+RIGHT, WRONG = 0, 1
 EXAMPLES = os.path.join(TOP, "examples")
 # The list 5, 7, 11 from address 2048 on: each entry is its value and the address of the next.
 LIST = "arg 2048\nmemory 0 2048 050000000808000007000000100800000b00000000000000\n"
@@ -145,8 +147,7 @@ class Tests:
 
 
 def run(words: Sequence[str]) -> int:
-    if list(words) in (["--help"], ["-h"]):
-        print(__doc__)
+    if is_answered("blade-selftest", words, __doc__):
         return RIGHT
     if words:
         print(__doc__, file=sys.stderr)
@@ -154,7 +155,7 @@ def run(words: Sequence[str]) -> int:
     program = ready_program()
     if program is None:
         print("WRONG: there is no program: ./blade-prove builds it")
-        return WRONG
+        return GAVE_UP
     status = RIGHT
     with tempfile.TemporaryDirectory(prefix="blade-selftest-") as folder:
         for sentence, test in Tests(program, folder).all().items():
@@ -170,7 +171,7 @@ def run(words: Sequence[str]) -> int:
 
 
 def main(words: Sequence[str]) -> int:
-    return ended("blade-selftest", lambda: run(words), UNREAD, UNREAD)
+    return ended("blade-selftest", lambda: run(words), GAVE_UP)
 
 
 if __name__ == "__main__":

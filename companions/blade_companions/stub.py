@@ -21,13 +21,12 @@ import os
 import sys
 from typing import List, Optional, Sequence, Tuple
 
-from .ending import ended
+from .ending import ended, is_answered
 from .formats.interface import Linked, faults, read_interface, stub_of, unfit
 from .formats.module import name_of_file, read_module
 from .printing import say
+from .statuses import DONE, NO, USAGE
 from .writing import write_file
-
-DONE, WRONG, USAGE = 0, 1, 2
 
 
 def parted(words: List[str]) -> Optional[Tuple[List[str], str, List[str]]]:
@@ -51,7 +50,7 @@ def make(libraries: Sequence[str], interface: str, stubs: Sequence[str]) -> int:
     for one in told:
         say(f"blade-stub: {one}", sys.stderr)
     if told:
-        return WRONG
+        return NO
     made = [stub_of(name, lines, library) for name in names]
     for path, data in zip(stubs, made):
         write_file(path, data)
@@ -66,7 +65,7 @@ def check(stubs: Sequence[str], interface: str, libraries: Sequence[str], users:
         say(one)
     if not told:
         say(f"kept functions {len(lines)} clients {len(users)}")
-    return WRONG if told else DONE
+    return NO if told else DONE
 
 
 def is_over(paths: Sequence[str], others: Sequence[str]) -> bool:
@@ -76,8 +75,7 @@ def is_over(paths: Sequence[str], others: Sequence[str]) -> bool:
 
 
 def run(words: List[str]) -> int:
-    if words in (["--help"], ["-h"]):
-        print(__doc__)
+    if is_answered("blade-stub", words, __doc__):
         return DONE
     checking = words[:1] == ["--check"]
     end = words.index("--") if checking and "--" in words else len(words)

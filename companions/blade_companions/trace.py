@@ -8,20 +8,20 @@ from the program. Licence: public domain (CC0).
 
 `twin` on such a trace compares two secrets along this one run. For all runs there is `constant-time yes`.
 
-It ends with 0; 1 where what is counted hadn't ended after so many commands, which is said as `spent N`; 2 for
-words that it doesn't know; 3 for files that it can't read."""
+It ends with 0; 2 for words that it doesn't know; 3 for files that it can't read; 4 if what is counted hadn't
+ended after so many commands, which is said as `spent N`."""
 import sys
 from typing import List, Optional, Sequence, Tuple
 
-from .ending import ended
+from .ending import ended, is_answered
 from .formats.image import image_at
 from .formats.reading import Bad, read_file
 from .formats.running import Run, counts, read_start, traced
 from .printing import say
+from .statuses import DONE, GAVE_UP, USAGE
 
 TRACED, COUNTED = 300_000, 30_000_000
 LINES = 1_000_000
-DONE, SPENT, USAGE = 0, 1, 2
 
 
 def asked(words: Sequence[str]) -> Optional[Tuple[List[str], bool, int]]:
@@ -40,8 +40,7 @@ def asked(words: Sequence[str]) -> Optional[Tuple[List[str], bool, int]]:
 
 
 def run(words: Sequence[str]) -> int:
-    if words in (["--help"], ["-h"]):
-        print(__doc__)
+    if is_answered("blade-trace", words, __doc__):
         return DONE
     given = asked(words)
     if given is None:
@@ -58,7 +57,7 @@ def run(words: Sequence[str]) -> int:
             say(f"{name} {number}")
         if not begun.left:
             say(f"spent {most}")
-        return DONE if begun.left else SPENT
+        return DONE if begun.left else GAVE_UP
     for number, line in enumerate(traced(begun, most)):
         if number == LINES:
             break

@@ -6,9 +6,10 @@ domain (CC0).
     [--forward] [--more N] [--run N]
                   [--out PREFIX] [--seconds N] [--seed N] [--blade PROGRAM]
 
-Status: 0 nothing found; 1 a leak is witnessed; 2 the words aren't right; 3 something can't be read, or the
-program doesn't run; 4 `run` alone shows it: a secret in a public memory or in a demanded result, or another
-way."""
+Status: 0 searched, and nothing found; 1 a leak is witnessed, by `twin` or `forward`, or by whole runs: a
+secret in a public memory or in a demanded result, or another way; 2 the words aren't right; 3 something can't
+be read, or the program refuses it; 4 gave up before anything was searched, and the message begins with
+that."""
 from __future__ import annotations
 
 import argparse
@@ -22,32 +23,30 @@ from typing import Dict, Iterable, Iterator, List, Optional, Sequence, Tuple
 from .witnesses import telling
 from .witnesses.attempts import Sought
 from .witnesses.directives import last_of
-from .ending import ended
+from .ending import ended, version_line
 from .verdict.flow import find
 from .formats.image import read_image
 from .c.lines import Lines
 from .explain import count, functions_of, pair
 from .witnesses.pairs import flipped
 from .witnesses.program import Program, program_of
-from .formats.reading import Bad, read_file
+from .formats.reading import GaveUp, read_file
 from .witnesses.search import Searched, search
 from .verdict.evidence import Evidence, evidence_of_run, function_of, kind_of, secret_of
 from .witnesses.shrinking import Found, Shrinking
 from .c.sources import Sources
 from .printing import say
+from .statuses import GAVE_UP, NO, YES
 from .writing import write_file
 
-NOTHING, WITNESSED, USAGE, UNREAD, SHOWN = range(5)
+NOTHING, WITNESSED = YES, NO
 RUN = 150_000  # so many commands are followed first
-
-
-class Unsearchable(Bad):
-    """The words leave nothing to search."""
 
 
 def words_of(words: Sequence[str]) -> argparse.Namespace:
     parser = argparse.ArgumentParser(prog="blade-witness", description="Looks for two starts that agree in "
                                      "public and are told apart.")
+    parser.add_argument("--version", action="version", version=version_line("blade-witness"))
     parser.add_argument("image", metavar="IMAGE")
     parser.add_argument("export", metavar="EXPORT")
     parser.add_argument("start", metavar="START", help="its public inputs stay; secret parameters and what "
@@ -90,9 +89,8 @@ def sought_by(words: argparse.Namespace, folder: str) -> Tuple[Sought, Evidence]
     image = read_image(read_file(words.image, "image"))
     secret = secret_of(image, words.export, words.start, words.secret, words.keep)
     if not secret.first:
-        raise Unsearchable("nothing may change: no parameter of this function is secret, and START gives no "
-                           "bytes of a secret memory "
-                           "(or --secret M:OFFSET:SIZE)")
+        raise GaveUp(f"{telling.UNSEARCHED}: nothing may change: no parameter of this function is secret, "
+                     "and START gives no bytes of a secret memory (or --secret M:OFFSET:SIZE)")
     program = Program(program_of(words.blade), words.image, words.export,
                       "forward" if words.forward else "twin", folder)
     findings = find(image)
@@ -159,7 +157,7 @@ def tell_found(sought: Sought, searched: Searched, words: argparse.Namespace, li
 
 
 def tell_whole_runs(sought: Sought, searched: Searched, words: argparse.Namespace) -> int:
-    """Writes and tells what whole runs show."""
+    """Writes and tells what whole runs show. There is no trace then."""
     attempt, tried = searched.whole_runs
     write_starts(sought, words.out, attempt.first, tried.other)
     again = telling.runs_again(words.image, words.export, words.out, tried.differs.startswith("position"))
@@ -168,7 +166,7 @@ def tell_whole_runs(sought: Sought, searched: Searched, words: argparse.Namespac
     say_all(f"  secret changed: {change}"
             for change in telling.what_differs(sought.secret, attempt.first, tried.other))
     say(f"again: {again}")
-    return SHOWN
+    return WITNESSED
 
 
 def run(words: argparse.Namespace, folder: str) -> int:
@@ -181,22 +179,20 @@ def run(words: argparse.Namespace, folder: str) -> int:
     if searched.found:
         return tell_found(sought, searched, words, lines)
     say_all(telling.nothing(searched.done, evidence, words.seconds, lines))
-    return tell_whole_runs(sought, searched, words) if searched.whole_runs else NOTHING
+    if searched.whole_runs:
+        return tell_whole_runs(sought, searched, words)
+    return NOTHING if searched.done.is_begun else GAVE_UP
 
 
 def started(words: Sequence[str]) -> int:
-    try:
-        with tempfile.TemporaryDirectory() as folder:
-            return run(words_of(words), folder)
-    except Unsearchable as fault:
-        say(f"blade-witness: {fault}", sys.stderr)
-        return USAGE
+    with tempfile.TemporaryDirectory() as folder:
+        return run(words_of(words), folder)
 
 
 def main(words: Sequence[str]) -> int:
     # So that what it began ends with it.
     signal.signal(signal.SIGTERM, lambda *_: sys.exit(128 + signal.SIGTERM))
-    return ended("blade-witness", lambda: started(words), UNREAD)
+    return ended("blade-witness", lambda: started(words))
 
 
 if __name__ == "__main__":

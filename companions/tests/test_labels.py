@@ -62,6 +62,22 @@ class Labels(unittest.TestCase):
             with self.subTest(words), self.assertRaises(Bad):
                 labelled(module(), words.split())
 
+    def test_a_refusal_keeps_the_name(self) -> None:
+        kinds = ("the kinds are secret-param F I, secret-global G, secret-memory M, public-result F I and "
+                 "public-global G")
+        for words, told in (("secret-param add 7", "secret-param add 7: add has 2 parameters"),
+                            ("secret-param 1 2", "secret-param add 2: add has 2 parameters (counted from 0)"),
+                            ("public-result add 1", "public-result add 1: add has 1 result (counted from 0)"),
+                            ("secret-param 9 0", "secret-param 9 0: the module has 2 functions"),
+                            ("secret-memory 4", "secret-memory 4: the module has 1 memory"),
+                            ("secret-global key secret-global 1",
+                             "secret-global key: named before, by secret-global key"),
+                            ("secret-local 0", f"secret-local is no kind of label: {kinds}"),
+                            ("secret-param add", f"too few words behind secret-param: {kinds}")):
+            with self.subTest(words), self.assertRaises(Bad) as raised:
+                labelled(module(), words.split())
+            self.assertEqual(str(raised.exception), told)
+
     def test_modules_that_are_refused(self) -> None:
         for data in UNFIT:
             with self.subTest(data), self.assertRaises(Bad):

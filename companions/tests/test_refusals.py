@@ -1,9 +1,12 @@
 """Tests of what is said of refusals, on modules that are written by hand. Licence: public domain (CC0)."""
 from __future__ import annotations
 
+import os
+import tempfile
 import unittest
 
-from blade_companions.c.refusals import about_symbols, refusal
+from blade_companions.c.missing import about_headers, about_symbols
+from blade_companions.c.refusals import refusal
 from blade_companions.formats.encoding import section, sized, vector
 from blade_companions.formats.module import MAGIC, Module, module_of
 
@@ -24,6 +27,16 @@ CASES = [
     ("00 0B", "link: m import 0 mismatch", -1, -1, "which has another type there"),
     ("00 0B", "limit: reserve 1025", -1, -1, "--memory"),
 ]
+HEADERS = {
+    "string.h": "a standard header: apt-get install wasi-libc has it",
+    "sys/types.h": "a standard header: apt-get install wasi-libc",
+    "pthread.h": "a header of Unix, which wasi-libc hasn't",
+    "includes.h": "a header of the project: say -I src [blade-header]",
+    "utils/common.h": "a header of the project: say -I lib/deep [blade-header]",
+    "config.h": "generated: run configure (or cmake) first and name its folder by -I, or say --config-h,",
+    "version.h": "generated from gen/version.h.in: run configure",
+    "build.h": "generated from conf/build.h.in: run configure",
+    "other.h": "a header of the project or of another library: -I FOLDER names where it is"}
 SYMBOLS = [("__multi3", "__int128"), ("__udivti3", "__int128"), ("__addsf3", "floats"),
            ("malloc", "wasi-libc")]
 
@@ -50,4 +63,32 @@ class Refusals(unittest.TestCase):
     def test_names_that_the_linker_does_not_find(self) -> None:
         for name, word in SYMBOLS:
             with self.subTest(name):
-                self.assertIn(word, about_symbols([name])[0])
+                error, note = about_symbols([name], {name: ["f", "g"]}, False)
+                self.assertIn(f"defines {name} (called by f, g) [blade-undefined]", error)
+                self.assertIn(word, note)
+
+    def test_all_undefined_names_are_one_note(self) -> None:
+        names = ["malloc", "__multi3", "mine", "free"]
+        error, note = about_symbols(names, {"malloc": ["a", "b", "c", "d", "e"]}, False)
+        self.assertEqual(error, "blade-cc: error: no file that was given defines __multi3, free, malloc "
+                         "(called by a, b, c and 2 more), mine [blade-undefined]")
+        self.assertEqual([one.partition(": ")[0] for one in note[len("blade-cc: note: ") :].split("; ")],
+                         ["free, malloc", "__multi3", "mine"])
+        self.assertIn("free, malloc, mine: name the files", about_symbols(names, {}, True)[1])
+        self.assertIn(" and 88 more [", about_symbols([f"f{at:03}" for at in range(100)], {}, True)[0])
+
+    def test_kinds_of_missing_headers(self) -> None:
+        with tempfile.TemporaryDirectory() as folder:
+            for name in ("src/includes.h", "lib/deep/utils/common.h", "gen/version.h.in", "conf/build.h.in"):
+                os.makedirs(os.path.dirname(os.path.join(folder, name)), exist_ok=True)
+                with open(os.path.join(folder, name), "w", encoding="ascii"):
+                    pass
+            kept = os.getcwd()
+            os.chdir(folder)
+            try:
+                for name, text in HEADERS.items():
+                    told = about_headers(f"x.c:3:10: fatal error: '{name}' file not found\n")
+                    self.assertEqual(len(told), 1)
+                    self.assertIn(f"blade-cc: note: {name} is {text}", told[0])
+            finally:
+                os.chdir(kept)

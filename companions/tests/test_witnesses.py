@@ -6,7 +6,10 @@ import unittest
 
 from blade_companions.formats.image import Command, Function, Image, Memory, Operand
 from blade_companions.formats.reading import Bad
+from blade_companions.formats.operators import OUTSIDE
 from blade_companions.formats.running import Start
+from blade_companions.verdict.evidence import end_at, kind_of
+from blade_companions.verdict.flow import find
 from blade_companions.witnesses.directives import last_of
 from blade_companions.witnesses.meeting import Meeting
 from blade_companions.witnesses.pairs import Range, Secret, joined, ranges_of, what_changes, without
@@ -21,6 +24,30 @@ def tiny() -> Image:
     function = Function([False, True], 0, 2, 3, 1, 7, [0x7F, 0x7E])
     return Image([], [], [Memory(1, 1, True, [(0, bytes(range(16)))])], [function], {0: "m/f"}, {"m/f": 0},
                  [], {}, commands)
+
+
+def loading() -> Image:
+    """A function that loads from its secret parameter and branches by what it loads."""
+    at, out, value = (Operand(True, number) for number in range(3))
+    commands = [Command("Trap")] * 7 + [
+        Command("Set", (at,), (0,), (), 1, OUTSIDE), Command("Test", (out,), (), (1,), targets=(3, 9)),
+        Command("Load", (at,), (), (0,), 2, 0x28, 0), Command("Test", (value,), (), (2,), targets=(11, 11)),
+        Command("Ret")]
+    function = Function([True], 0, 3, 5, 0, 7, [0x7F])
+    return Image([], [], [Memory(1, 1, False, [])], [function], {0: "m/f"}, {"m/f": 0}, [], {}, commands)
+
+
+class Kinds(unittest.TestCase):
+    def test_a_bounds_test_is_of_an_address(self) -> None:
+        image = loading()
+        self.assertEqual([kind_of(image, at) for at in (8, 9, 10)],
+                         ["address of a load", "address of a load", "branch"])
+        self.assertEqual([end_at(image, at) for at in (8, 9, 10)], [9, 9, 10])
+        # The test of the bounds is no end of its own, since the address is secret itself.
+        self.assertEqual([(end.position, end.kind) for end in find(image).refused],
+                         [(9, "address of a load")])
+        self.assertEqual([(end.position, end.kind) for end in find(image).ends],
+                         [(8, "address of a load"), (9, "address of a load"), (10, "branch")])
 
 
 class Pairs(unittest.TestCase):

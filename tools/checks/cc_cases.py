@@ -29,11 +29,12 @@ def wide_switch() -> str:
 
 LEAKS = [
     Case("lookup", [], 1,
-         ["lookup.c:5:42: warning: a secret is part of the address of a load", "[blade-load]",
+         ["lookup.c:5:42: error: a secret is part of the address of a load", "[blade-load]",
                            "lookup.c:4: note: parameter index of lookup is declared secret"],
          HEAD + TABLE + "unsigned lookup(unsigned index);\nBLADE_SECRET_PARAM(lookup, index);\nunsigned "
          "lookup(unsigned index) { return table[index & 15]; }\n"),
-    Case("going", ["--no-fail"], 0, ["[blade-load]", "constant-time no"],
+    Case("going", ["--no-fail"], 0,
+         ["going.c:5:27: warning: a secret", "[blade-load]", "constant-time no"],
          HEAD + TABLE + "int going(int x);\nBLADE_SECRET_PARAM(going, x);\nint going(int x) { "
          "return table[x & 15]; }\n"),
     Case("branch", [], 1, ["branch.c:5:", "[blade-branch]"],
@@ -125,30 +126,97 @@ LABELS = [
          "int h(int y) { return g(y) * 2; }\n"),
     Case("nothing", ["--label", "secret-param nothing kye"], 5,
          ["nothing has no parameter kye: do you mean key?"], "int nothing(int key) { return key; }\n"),
+    Case("far", ["--label", "secret-param far 7"], 5,
+         ["error: secret-param far 7: far has 3 parameters in C (counted from 0) [blade-label]"],
+         "int far(int x, int y, int z) { return x + y + z; }\n"),
+    Case("far_by_macro", [], 5,
+         ["far_by_macro.c:3: error: secret-param f 1: f has 1 parameter in C (counted from 0) [blade-label]"],
+         HEAD + "int f(int x);\nBLADE_SECRET_PARAM(f, 1);\nint f(int x) { return x; }\n"),
+    Case("kind", ["--label", "secret-parm kind 0"], 5,
+         ["secret-parm is no kind of label: the kinds are secret-param F I, secret-global G, "
+          "secret-memory M, public-result F I and public-global G"], "int kind(int x) { return x; }\n"),
     Case("nobody", ["--label", "secret-param nobdy 0"], 5, ["no function is called nobdy"],
          "int nobody(int x) { return x; }\n"),
 ]
 REFUSALS = [
-    Case("float", [], 6, ["float.c:4:", "an instruction of floats", "[blade-float]", "in scaled"],
+    Case("float", [], 3, ["float.c:4:", "an instruction of floats", "[blade-float]", "in scaled"],
          HEAD + "BLADE_SECRET_MEMORY;\nint scaled(int a) {\n    double x = a;\n    return "
          "(int)(x * 1.5);\n}\n"),
-    Case("switch", [], 6, ["switch.c:", "300 cases", "[blade-nesting]"], wide_switch()),
-    Case("bulk", [], 6, ["bulk.c:3:", "an operation on whole memories", "[blade-instruction]"],
+    Case("switch", [], 3, ["switch.c:", "300 cases", "[blade-nesting]"], wide_switch()),
+    Case("bulk", [], 3, ["bulk.c:3:", "an operation on whole memories", "[blade-instruction]"],
          HEAD + 'BLADE_SECRET_MEMORY;\n__attribute__((target("bulk-memory"))) void f(char *p, const char *q, '
          'unsigned long n) { __builtin_memcpy(p, q, n); }\n'),
-    Case("import", MEMORY, 6,
+    Case("import", MEMORY, 3,
          ["the function ask is imported from env, which no module gives", "[blade-import]"],
          '__attribute__((import_module("env"), import_name("ask"))) int ask(void);\nint '
          'f(void) { return ask(); }\n'),
-    Case("unledgered", MEMORY, 6, ["compile and link with --ledger", "[blade-import]"],
+    Case("unledgered", MEMORY, 3, ["compile and link with --ledger", "[blade-import]"],
          '__attribute__((import_module("ledger"), import_name("ld32"))) unsigned ld32(unsigned);\nunsigned '
          'f(unsigned *p) { return ld32((unsigned)p); }\n'),
     Case("pages", [*MEMORY, "--memory", "1"], 3, ["memory too small", "--memory PAGES"],
          "unsigned char room[70000] = {1};\nvoid pages(unsigned i) { room[i] = 2; }\n"),
-    Case("heap", [], 3, ["undefined symbol: malloc", "malloc stands in no file that was given", "wasi-libc"],
+    Case("heap", [], 3,
+         ["error: no file that was given defines malloc (called by f) [blade-undefined]",
+          "note: malloc: of the C library: apt-get install wasi-libc has them"],
          HEAD + "void *malloc(unsigned long);\nvoid *f(unsigned n) { return malloc(n); }\n"),
-    Case("header", [], 3, ["'stdio.h' file not found", "apt-get install wasi-libc"], "#include <stdio.h>\n"),
+    Case("undefined", [], 3,
+         ["error: no file that was given defines free (called by f, g), malloc (called by g), mine (called "
+          "by f, g, h and 1 more) [blade-undefined]\nblade-cc: note: free, malloc: of the C library: apt-get",
+          "; mine: name the files or libraries that define them\n"],
+         HEAD + "BLADE_SECRET_MEMORY;\nvoid *malloc(unsigned long);\nvoid free(void *);\nvoid mine(void *);\n"
+         "void f(void *p) { mine(p); free(p); }\nvoid g(int n) { void *p = malloc(n); mine(p); free(p); }\n"
+         "void h(void) { mine(0); }\nvoid i(void) { mine(0); }\n"),
+    Case("header", [], 3,
+         ["'stdio.h' file not found", "note: stdio.h is a standard header: apt-get install wasi-libc has it "
+          "(or --sysroot FOLDER, or the variable WASI_SYSROOT,"], "#include <stdio.h>\n"),
+    Case("unix_header", [], 3, ["note: pthread.h is a header of Unix, which wasi-libc hasn't"],
+         "#include <pthread.h>\n"),
+    Case("configured", [], 3,
+         ["note: config.h is generated: run configure (or cmake) first and name its folder by -I, or say "
+          "--config-h, which makes an empty one and shows where [blade-header]"], '#include "config.h"\n'),
+    Case("config_h", [*MEMORY, "--config-h"], 0,
+         ["note: config.h: config_h/build/config/config.h, which is empty, counts if no folder of -I has",
+          "config_h: constant-time yes"],
+         '#include "config.h"\n#ifdef HAVE_FAST\n#error\n#endif\nint config_h(int x) { return x; }\n'),
+    Case("config_out", [*MEMORY, "--config-h=../x.h"], 2, ["the name of a header as code includes it is due"],
+         "int f(int x) { return x; }\n"),
+    Case("other_header", [], 3,
+         ["note: other.h is a header of the project or of another library: -I FOLDER names where it is"],
+         '#include "other.h"\n'),
+    Case("sysroot", ["--sysroot", "nowhere"], 2, ["--sysroot nowhere: there is no include/wasm32-wasi in it"],
+         "int f(int x) { return x; }\n"),
     Case("machine", ["-msimd128"], 2, ["without vectors"], HEAD),
     Case("wrong", [], 3, ["wrong.c:1:8: error:"], "int f( {\n"),
 ]
-CASES = [*LEAKS, *YES, *LABELS, *REFUSALS]
+# What a tool can't know without a run: elements of arrays hold public numbers, pointers and secrets alike.
+ROUNDS = "unknown whether it is secret, since it is an element of an array: one run decides (--start FILE)"
+GUESSES = [
+    Case("element_rounds", MEMORY, 1,
+         [f"element_rounds.c:4:5: note: {ROUNDS}", "if it is public, give it as a parameter",
+          "if it is secret this is a leak: compute without a branch"],
+         "#define NR 60\nvoid element_rounds(const unsigned *rk, unsigned *out) {\n    unsigned n = rk[NR];\n"
+         "    for (unsigned i = 0; i < n; i++) out[i & 3] ^= rk[i & 3];\n}\n"),
+    Case("vector", MEMORY, 1, [f"vector.c:2:41: note: {ROUNDS}", f"vector.c:2:81: note: {ROUNDS}"],
+         "__attribute__((noinline)) static void add(unsigned *to, const unsigned *p, unsigned n) {\n"
+         "                                        for (unsigned i = 0; i < n; i++) *to += p[i];\n}\n"
+         "void vector(unsigned *to, unsigned count, const unsigned **addr, const unsigned *len) {\n"
+         "    for (unsigned i = 0; i < count; i++)\n        add(to, addr[i], len[i]);\n}\n"),
+    Case("order", MEMORY, 1, [ROUNDS, "read all entries, and keep one by a mask"],
+         "unsigned char M[16];\nunsigned order(const unsigned *x) {\n    unsigned s = 0;\n"
+         "    for (int i = 0; i < 16; i++) s += x[M[i]];\n    return s;\n}\n"),
+    Case("walked", MEMORY, 1,
+         ["unknown whether it is secret, since a loop walks over where it is loaded from: one run decides"],
+         "unsigned walked(const unsigned *p, const unsigned *end, const unsigned *x) {\n    unsigned s = 0;\n"
+         "    while (p != end) s += x[*p++];\n    return s;\n}\n"),
+    Case("mixed", MEMORY, 1, ["likely a look-up or a branch by a secret, since it is mixed by xor"],
+         TABLE + "unsigned mixed(const unsigned *s, const unsigned *k, unsigned n) {\n    unsigned x = 0;\n"
+         "    for (unsigned i = 0; i < n; i++) x += table[(s[i] ^ k[i]) & 15];\n    return x;\n}\n"),
+    Case("cut", MEMORY, 1,
+         ["likely a look-up or a branch by a secret, since bits are cut out of it for addresses"],
+         "static const unsigned T[256] = {1, 2, 3};\nvoid cut(unsigned *s, unsigned n) {\n"
+         "    for (unsigned i = 0; i < n; i++) s[i] = T[s[i] & 255];\n}\n"),
+    Case("field", MEMORY, 1, ["likely a public number in a secret memory"],
+         "struct context { unsigned state[4], rounds; };\nvoid field(struct context *c) {\n"
+         "    for (unsigned i = 0; i < c->rounds; i++) c->state[i & 3] += i;\n}\n"),
+]
+CASES = [*LEAKS, *YES, *LABELS, *REFUSALS, *GUESSES]

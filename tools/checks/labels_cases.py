@@ -38,7 +38,7 @@ WRAPPED = (Answer(5, "in place of f (--wrap)"),)
 NAMELESS = (Answer(5, "no function is called f(unsigned_int)"),)
 LINKER = (Answer(3, "wasm-ld"),)  # the linker refuses an option or a file
 STRICT = (Answer(5, "give --no-assumptions to blade-cc -c there, too"),)  # a unit beside marked values
-CHANGED = (Answer(3, "isn't what its labels were made for"),)
+CHANGED = (Answer(5, "isn't what its labels were made for"),)
 HEAD = '#include "blade.h"\n'
 TABLE = "static const unsigned char table[256] = {3, 14, 9, 7, 12, 5, 10, 1, 15, 6, 11, 2, 13, 8, 4};\n"
 LABELLED = "unsigned f(unsigned k);\nBLADE_SECRET_PARAM(f, k);\n"

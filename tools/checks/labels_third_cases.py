@@ -8,7 +8,7 @@ from typing import Dict, Optional, Tuple
 from labels_cases import HEAD, LABELLED, TABLE, YES, Answer, Case
 from labels_more_cases import BUILD, ENTRY, HEADERS, LOOK, PLAIN, REFUSED, SAME, TWO_WORDS, WORK
 
-ANY = (*REFUSED, *BUILD, Answer(2, "error"), Answer(6, "error: "))  # all but a yes
+ANY = (*REFUSED, *BUILD, Answer(2, "error"))  # all but a yes
 ONE = ("arg 3\n", "arg 9\n")
 MEANT = "blade-cc --public-callers=f a.c -o out/"  # the compiler's guard alone has to keep the label
 CXX = "blade-cc --public-callers=f a.cc -o out/"

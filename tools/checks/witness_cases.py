@@ -10,14 +10,14 @@ from typing import List, NamedTuple, Tuple
 
 from harness import COMPANIONS, EXAMPLES, Check, ran
 
-NOTHING, WITNESSED, USAGE, UNREAD, SHOWN = range(5)
+NOTHING, WITNESSED, USAGE, UNREAD, GAVE_UP = range(5)
 LIMIT = "600"  # seconds of a search that has to end by itself, on a machine that does other things too
 HUNT = "6"  # seconds of one that has to find nothing
 
 
 class Leak(NamedTuple):
     """A search that is known to end in one way: the image and the function in it, the lines of the start
-    file, more words, the status, and what is told of it."""
+    file, more words, the status, what is told of it, and whether only whole runs show it."""
 
     image: str
     export: str
@@ -25,6 +25,7 @@ class Leak(NamedTuple):
     words: str = ""
     status: int = WITNESSED
     told: Tuple[str, ...] = ()
+    by_runs: bool = False
 
 
 VAULT = "memory 1 0 00112233445566778899aabbccddeeff\n"
@@ -34,17 +35,17 @@ AT_16 = "arg 3\narg 16\n" + VAULT
 LEAKS = [
     Leak("lookup", "lookup/lookup", "arg 3\n",
          told=("address of a load: lookup", "in the order of the program")),
-    Leak("result", "compare/compare", TAGS, status=SHOWN,
+    Leak("result", "compare/compare", TAGS, by_runs=True,
          told=("result 0, which is demanded public: 1 and 0",)),
     Leak("piece.g", "piece/add", PIECE, told=("piece.c:",)),
     Leak("index", "index/f", f"arg 4096\narg 4\nmemory 0 4096 {'0102030405060708'}\n",
          told=("index.c:4", "address of a load")),
-    Leak("frame", "frame/f", f"arg 4096\narg 8192\narg 16\nmemory 0 8192 {'11' * 64}\n", status=SHOWN,
-         told=("which is public",)),
-    Leak("address", "address/f", f"arg 4096\narg 8192\nmemory 0 8192 {'11' * 8}\n", status=SHOWN,
-         told=("which is public",)),
-    Leak("into", "into/f", f"arg 4096\narg 8192\nmemory 1 4096 {'11' * 20}\n", status=SHOWN,
-         told=("which is public",)),
+    Leak("frame", "frame/f", f"arg 4096\narg 8192\narg 16\nmemory 0 8192 {'11' * 64}\n",
+         told=("which is public",), by_runs=True),
+    Leak("address", "address/f", f"arg 4096\narg 8192\nmemory 0 8192 {'11' * 8}\n",
+         told=("which is public",), by_runs=True),
+    Leak("into", "into/f", f"arg 4096\narg 8192\nmemory 1 4096 {'11' * 20}\n",
+         told=("which is public",), by_runs=True),
     *(Leak("guesses.low", f"guesses/{name}", AT_16, "--public", told=("under a wrong guess", "guesses.c:"))
       for name in ("address", "branch", "divide", "call")),
     Leak("guesses.low", "guesses/scaled", "arg 3\narg 4\n" + VAULT, "--public",
@@ -59,12 +60,12 @@ LEAKS = [
 ]
 # What is constant-time, or tells nothing there: the same table's other half.
 QUIET = [
-    Leak("masked", "masked/masked", "arg 3\n", told=("reaches 2 of 2 refused ends, and meets at 0 of them",)),
+    Leak("masked", "masked/masked", "arg 3\n", told=("reaches 2 of 2 violations, and meets at 0 of them",)),
     Leak("masked_ssa", "masked_ssa/masked", "arg 3\n"),
     Leak("compare", "compare/compare", TAGS),
     Leak("quarter", "quarter/quarter", f"arg 4096\nmemory 0 4096 {'0123456789abcdef' * 2}\n"),
     Leak("piece.g", "piece/add", PIECE, "--keep 0:4096:4",
-         told=("looks public", "none would be refused: examples/piece.c:11")),
+         told=("looks public", "no violation would be left: examples/piece.c:11")),
     Leak("piece", "piece/add", PIECE.replace("memory 0", "memory 1") + "memory 0 4096 03000000\n"),
     Leak("handle", "handle/f",
          f"arg 4096\narg 255\nmemory 1 4096 0020000004000000\nmemory 0 8192 {'11' * 16}\n"),
@@ -144,7 +145,7 @@ def searched(check: Check, leak: Leak, out: str, *words: str) -> Tuple[int, str]
                *modules_of(check, leak.image), *leak.words.split()]
     done = subprocess.run([*command, "--blade", check.program, "--out", f"{check.folder}/{out}", *words],
                           capture_output=True, text=True, check=False)
-    return done.returncode, done.stdout + (done.stderr if done.returncode in (USAGE, UNREAD) else "")
+    return done.returncode, done.stdout + (done.stderr if done.returncode in (USAGE, UNREAD, GAVE_UP) else "")
 
 
 def replayed(check: Check, out: str, text: str) -> str:
@@ -166,10 +167,11 @@ def fault_of(check: Check, number: int, leak: Leak, *words: str) -> str:
     if not os.path.exists(f"{check.folder}/{leak.image}.img"):
         return "there is no image: the other checks make it"
     status, text = searched(check, leak, f"found{number}", *words)
-    missing = [one for one in leak.told if one not in text]
+    shown = ("but whole runs of two secrets differ",) * leak.by_runs
+    missing = [one for one in leak.told + shown if one not in text]
     if status != leak.status or missing:
         return f"status {status}, without {missing}: {text}"
-    return replayed(check, f"found{number}", text) if status == WITNESSED else ""
+    return replayed(check, f"found{number}", text) if status == WITNESSED and not leak.by_runs else ""
 
 
 def name_of(leak: Leak) -> str:
@@ -180,7 +182,7 @@ def witnesses(check: Check) -> None:
     """Each known leak is witnessed, and replayed."""
     make_images(check)
     for number, leak in enumerate(LEAKS):
-        how = "witnessed, and replayed" if leak.status == WITNESSED else "shown by whole runs"
+        how = "witnessed, and replayed" if not leak.by_runs else "shown by whole runs"
         check.fault(f"{name_of(leak)}: {how}", fault_of(check, number, leak, "--seconds", LIMIT))
     same(check)
     by_hand(check)
@@ -226,7 +228,7 @@ def explained(check: Check) -> None:
     status, text = explain(check, "--start", "lookup/lookup", f"{EXAMPLES}/three.start", "--witness", out,
                            "--page", written[0], "--sarif", written[1], "--json", written[2])
     shown = all(one in text for one in ("constant-time no, leak witnessed: 1 of",
-                                        "leak witnessed: address of a load", "reaches 1 of 1 refused ends"))
+                                        "leak witnessed: address of a load", "reaches 1 of 1 violations"))
     texts = [open(path, encoding="utf-8").read() for path in written]
     shown = (shown and "leak witnessed" in texts[0] and '"level": "error"' in texts[1]
              and '"witnessed": true' in texts[2])
@@ -253,14 +255,15 @@ def refused(check: Check) -> None:
         done = searched(check, lookup, "refused", *words)
         check.say(f"blade-witness {' '.join(words)}", done[0] == status and told in done[1], f"{done}")
     done = searched(check, QUIET[1], "refused", "--seconds", "0")
-    check.say("blade-witness --seconds 0", done[0] == NOTHING and "stopped after 0 seconds" in done[1],
-              f"{done}")
+    check.say("blade-witness --seconds 0", done[0] == GAVE_UP and done[1].startswith(
+        "gave up before anything was searched, stopped after 0 seconds: "), f"{done}")
     for leak in (Leak("guesses", "guesses/address", "arg 3\narg 16\n"),
                  Leak("list", "list/list", "arg 2048\n"),
                  Leak("sample", "sample/sample", "arg 2048\narg 1\narg 4096\n")):
         done = searched(check, leak, "refused")
         check.say(f"{name_of(leak)}: nothing may change",
-                  done[0] == USAGE and "nothing may change" in done[1], f"{done}")
+                  done[0] == GAVE_UP and done[1].startswith(
+                      "blade-witness: gave up before anything was searched: nothing may change"), f"{done}")
 
 
 # The worked routines: the folder and the function of each.

@@ -8,13 +8,17 @@ from dataclasses import dataclass, field
 from typing import Callable, Dict, List, Optional, Sequence, Tuple
 
 from ..formats.reading import read_file
+from ..statuses import GAVE_UP, INPUT, LOST, USAGE
 
-YES, NO, USAGE, BUILD, MISSING, LABELS, REFUSED, DISAGREE = range(8)
+# Names of the statuses here: clang, the linker or blade refuses the files, or there is no answer.
+BUILD = REFUSED = INPUT
+MISSING = DISAGREE = GAVE_UP
+LABELS = LOST
 SOURCES = (".c", ".cc", ".cpp", ".cxx", ".C", ".s", ".S", ".i")
 OBJECTS = (".o", ".a", ".obj", ".bc")
 # clang's words that have another one behind them.
 WITH_NEXT = frozenset("-I -D -U -include -isystem -idirafter -iquote -x -Xclang -mllvm -MF -MT -MQ -imacros "
-                      "-isysroot --sysroot -std".split())
+                      "-isysroot -std".split())
 ALONE = frozenset("-c -S -E -M -MM -fsyntax-only -###".split())  # clang does all there is to do
 OTHER_MACHINE = {
     "-mbulk-memory": "operations on whole memories", "-msimd128": "vectors", "-mrelaxed-simd": "vectors",
@@ -47,12 +51,20 @@ class Asked:
     # start files, by EXPORT=FILE where there are several exports
     counts: List[str] = field(default_factory=list)
     start: Optional[str] = None  # a start file for a search after a no, in the same way
+    empty_headers: List[str] = field(default_factory=list)  # of --config-h
+    sysroot: str = field(default_factory=lambda: os.environ.get("WASI_SYSROOT", "/usr"))
+    keep: List[str] = field(default_factory=list)  # bytes that are public there, M:OFFSET:SIZE
     out: Optional[str] = None
     name: Optional[str] = None
     blade: Optional[str] = None
     way: Optional[str] = None  # ledger or vault
     pages: Optional[int] = None
+    part: Optional[str] = None  # library or client: one side of an interface
+    interface: str = ""
+    stubs: List[str] = field(default_factory=list)
     limit: int = 20
+    everything: bool = False  # the violations of libraries are printed like those of the own sources
+    allocator: int = 0  # bytes of the heap of the allocator for verification; 0 without it
     # labelled functions that may be given public values
     public_callers: List[str] = field(default_factory=list)
     alone: bool = False
@@ -65,17 +77,40 @@ class Asked:
     def is_linked_with(self, word: str) -> bool:
         return any(word in one for one in self.links)
 
+    def wasi_headers(self) -> str:
+        """Where the headers of wasi-libc would be: as Debian has them, and wasi-sdk in its own folder."""
+        return f"{self.sysroot}/include/wasm32-wasi"
+
+    def wasi_library(self) -> str:
+        return f"{self.sysroot}/lib/wasm32-wasi/libc.a"
+
     @property
     def base(self) -> str:
-        """The name of what is made, where -o doesn't say it."""
+        """The name of the only file; nothing if there are several."""
         files = self.sources + self.objects
-        return os.path.splitext(os.path.basename(files[0]))[0] if len(files) == 1 else "a"
+        return os.path.splitext(os.path.basename(files[0]))[0] if len(files) == 1 else ""
 
 
 def number(word: str, value: str, most: int) -> int:
     if not value.isdigit() or not 0 < int(value) <= most:
         raise Stop(USAGE, f"blade-cc: error: {word} {value}: a number from 1 to {most} is due")
     return int(value)
+
+
+def sysroot(asked: Asked, folder: str) -> None:
+    """Where wasi-libc is."""
+    asked.sysroot = folder
+    if not os.path.isdir(asked.wasi_headers()):
+        raise Stop(USAGE, f"blade-cc: error: --sysroot {folder}: there is no include/wasm32-wasi in it, as "
+                   "wasi-libc has it")
+
+
+def empty_header(asked: Asked, name: str) -> None:
+    """A header that --config-h names: below the folder for it."""
+    if name.startswith("/") or ".." in name.split("/") or not name.endswith(".h"):
+        raise Stop(USAGE, f"blade-cc: error: --config-h={name}: the name of a header as code includes it is "
+                   "due, without ..")
+    asked.empty_headers.append(name)
 
 
 def setters(asked: Asked) -> Dict[str, Callable[[str], None]]:
@@ -87,7 +122,9 @@ def setters(asked: Asked) -> Dict[str, Callable[[str], None]]:
     return {
         "-o": keep("out"), "--name": keep("name"), "--blade": keep("blade"),
         "--label": lambda value: asked.labels.extend(value.split()), "--counts": asked.counts.append,
-        "--start": keep("start"),
+        "--start": keep("start"), "--keep": asked.keep.append,
+        "--sysroot": lambda value: sysroot(asked, value),
+        "--part": keep("part"), "--interface": keep("interface"), "--stub": asked.stubs.append,
         "--public-callers": lambda value: asked.public_callers.extend(value.split(",")),
         "--export": lambda value: asked.links.append(f"--export={value}"),
         "--memory": lambda value: setattr(asked, "pages", number("--memory", value, 256)),
@@ -96,10 +133,12 @@ def setters(asked: Asked) -> Dict[str, Callable[[str], None]]:
     }
 
 
+HEAP, MOST_HEAP = 262_144, 16_000_000  # bytes for --allocator
 SWITCHES: Dict[str, Tuple[str, object]] = {
     "--ledger": ("way", "ledger"), "--vault": ("way", "vault"), "--unlabelled": ("unlabelled", True),
     "--no-fail": ("no_fail", True), "--no-assumptions": ("no_assumptions", True),
-    "--native": ("native", True), "-v": ("verbose", True)}
+    "--native": ("native", True), "--all": ("everything", True), "--allocator": ("allocator", HEAP),
+    "-v": ("verbose", True)}
 
 
 def asked_by(words: Sequence[str]) -> Asked:
@@ -119,12 +158,32 @@ def asked_by(words: Sequence[str]) -> Asked:
             values[word](value) if word in values else asked.flags.extend([word, value])
         elif name in values and is_joined and name.startswith("--"):
             values[name](value)
+        elif name == "--allocator" and is_joined:
+            asked.allocator = number(name, value, MOST_HEAP)
         elif word in SWITCHES:
             setattr(asked, *SWITCHES[word])
         else:
             plain(asked, word)
     refuse_forbidden(asked.flags + asked.links)
+    refuse_unfit(asked)
     return asked
+
+
+def refuse_unfit(asked: Asked) -> None:
+    """Words that don't go together where a side of an interface is made."""
+    why = ""
+    if asked.part not in (None, "library", "client"):
+        why = f"--part {asked.part}: library or client is due"
+    elif asked.part and not asked.interface:
+        why = f"--part {asked.part} needs --interface FILE"
+    elif asked.part == "client" and not asked.stubs:
+        why = "--part client needs --stub STUB.wasm, which --part library makes"
+    elif asked.part != "client" and asked.stubs or asked.interface and not asked.part:
+        why = "--stub is for --part client, and --interface for --part"
+    elif asked.part and (asked.counts or asked.start or asked.native):
+        why = "--counts, --start and --native are for whole programs, not for --part"
+    if why:
+        raise Stop(USAGE, f"blade-cc: error: {why}")
 
 
 def plain(asked: Asked, word: str) -> None:
@@ -132,6 +191,8 @@ def plain(asked: Asked, word: str) -> None:
     if word in ALONE or word.startswith(("-print-", "-dump")) or word == "--version":
         asked.alone = True
         asked.flags.append(word)
+    elif word == "--config-h" or word.startswith("--config-h="):
+        empty_header(asked, word.partition("=")[2] or "config.h")
     elif word.startswith("-Wl,"):
         asked.links += word.split(",")[1:]
     elif word.startswith(("--export-", "--initial-memory=", "--max-memory=", "-L", "-l")):

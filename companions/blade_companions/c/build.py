@@ -6,7 +6,7 @@ import os
 import re
 import subprocess
 import tempfile
-from typing import List, Sequence, Set
+from typing import Dict, List, Sequence, Set
 
 from .arguments import ALONE, BUILD, USAGE, Asked, Stop
 from .dwarf import all_contents
@@ -14,9 +14,10 @@ from .declarations import lines_in
 from .inputs import Input, inputs_in, lines_of, text_of
 from .objects import given_by
 from .strangers import left_out_words, of_inputs
-from .compiling import TARGET, WASI, Compiler
-from .refusals import about_symbols
+from .compiling import TARGET, Compiler
+from .missing import about_symbols, callers_of
 from .tools import INCLUDE, Ran, Runner, found, written_to
+from ..formats.memories import HEAP_BASE
 from ..formats.module import FUNCTION, Module, read_module
 
 # With the stack first a frame that doesn't fit traps; behind the data it would overwrite that.
@@ -25,7 +26,8 @@ PAGE = 65536
 FIRST_PAGES = 3  # one for the stack, one for data, one for the buffers of calls
 MASKS = "blade_secret_mask_"  # what BLADE_SECRET reads
 LIBRARY = ("memcpy", "memmove", "memset", "memcmp")
-WASI_LIBRARY = f"{WASI}/lib/wasm32-wasi/libc.a"
+ALLOCATOR = ("malloc", "free", "calloc", "realloc", "aligned_alloc", "posix_memalign", "__libc_malloc",
+             "__libc_calloc")
 
 
 class Builder:
@@ -35,6 +37,7 @@ class Builder:
         self.asked, self.runner, self.folder = asked, runner, folder
         self.compiler = Compiler(asked, runner)
         self.opened: List[Input] = []
+        self.linked_by: List[str] = []  # the words of the last link
 
     def alone(self) -> int:
         """What clang does by itself, and objects, which are made as for a module."""
@@ -56,6 +59,7 @@ class Builder:
             raise Stop(USAGE, "blade-cc: error: -o with several sources, where nothing is linked")
         with tempfile.TemporaryDirectory(prefix="blade-") as folder:
             ending = ".o" if last == "-c" else ".s"
+            self.compiler.empty_headers(f"{folder}/config")
             names = [out or os.path.splitext(os.path.basename(source))[0] + ending for source in sources]
             for number, pair in enumerate(zip(sources, names)):
                 os.mkdir(f"{folder}/{number}")
@@ -67,25 +71,31 @@ class Builder:
         sources = self.asked.sources
         made = [f"{self.folder}/{number}-{os.path.splitext(os.path.basename(source))[0]}.o" for number, source
                 in enumerate(sources)]
+        self.compiler.empty_headers(f"{self.folder}/config")
         self.compiler.compile(list(zip(sources, made)), self.folder)
         return made + self.asked.objects
 
     def library(self, missing: Set[str]) -> List[str]:
-        """What stands in no file that was given: the masks of BLADE_SECRET; the four functions of libc.c,
-        which give way to the sources' own; wasi-libc and clang's own functions, where they are installed.
-        memcmp of wasi-libc stops at the first difference, so that of libc.c goes first."""
+        """What stands in no file that was given: the masks of BLADE_SECRET; the four functions of libc.c, and
+        with --allocator those of allocator.c, which give way to the sources' own; wasi-libc and clang's own
+        functions, where they are installed. memcmp of wasi-libc stops at the first difference, so that of
+        libc.c goes first."""
         source, to = f"{self.folder}/blade-libc.c", f"{self.folder}/blade-libc.o"
-        written_to(source, ("".join(f"#pragma weak {name}\n" for name in LIBRARY)
-                            + f'#include "{INCLUDE}/libc.c"\n#include "{INCLUDE}/masks.c"\n').encode())
-        done = self.runner.run([found("clang"), *TARGET, "-O2", "-fno-builtin", "-fvisibility=hidden", "-c",
-                                "-o", to, source])
+        names, files, words = list(LIBRARY), ["libc.c", "masks.c"], []
+        if self.asked.allocator:
+            names += ALLOCATOR
+            files, words = files + ["allocator.c"], [f"-DBLADE_HEAP={self.asked.allocator}"]
+        written_to(source, "".join([f"#pragma weak {name}\n" for name in names]
+                                   + [f'#include "{INCLUDE}/{name}"\n' for name in files]).encode())
+        done = self.runner.run([found("clang"), *TARGET, "-O2", "-fno-builtin", "-fvisibility=hidden", *words,
+                                "-c", "-o", to, source])
         if done.status:
             raise Stop(BUILD, done.errors)
         if all(name.startswith(MASKS) for name in missing):
             return [to]
         own = subprocess.run([found("clang"), "--target=wasm32-wasi", "-print-libgcc-file-name"],
                              capture_output=True, text=True, check=False).stdout.strip()
-        return [to] + [one for one in (WASI_LIBRARY, own) if os.path.exists(one)]
+        return [to] + [one for one in (self.asked.wasi_library(), own) if os.path.exists(one)]
 
     def exports(self, objects: Sequence[str]) -> List[str]:
         """Words that export what other units may call, of the objects themselves: nothing else says what is
@@ -115,9 +125,10 @@ class Builder:
         extra: List[str] = []
         least = pages = self.asked.pages or FIRST_PAGES
         while True:
-            done = self.runner.run([found("wasm-ld"), "--no-entry", *links, *self.memory(pages),
-                                    *self.asked.links, *exports, f"--reproduce={self.folder}/inputs.tar",
-                                    "-o", linked, *objects, *extra])
+            words = [found("wasm-ld"), "--no-entry", "--error-limit=0", *links, *self.memory(pages),
+                     *self.asked.links, *exports]
+            self.linked_by = [*words, *objects, *extra]
+            done = self.runner.run([*self.linked_by, f"--reproduce={self.folder}/inputs.tar", "-o", linked])
             missing = set(re.findall(r"undefined symbol: (\S+)", done.errors))
             needed = re.search(r"memory too small, (\d+) bytes needed", done.errors)
             if done.status and missing and not extra:
@@ -131,11 +142,31 @@ class Builder:
             else:
                 exports = self.exports(objects) or ["--export-dynamic"]
 
+    def free(self) -> Module:
+        """A module that says where C's stack and data end, by the linker's own symbol. It is linked again for
+        that, since one more global would be one more variable of the program."""
+        path = f"{self.folder}/free.wasm"
+        done = self.runner.run([*self.linked_by, "--strip-all", f"--export={HEAP_BASE}", "-o", path])
+        if done.status:
+            raise self.refused(done, set(), False)
+        return read_module(path)
+
     def refused(self, done: Ran, missing: Set[str], is_small: bool) -> Stop:
-        hints = about_symbols(missing)
+        """Why the linker refuses the objects. What they lack is told once, with who calls it."""
+        told = [line for line in done.errors.splitlines() if not missing or "undefined symbol: " not in line]
+        if missing:
+            told += about_symbols(sorted(missing), self.callers(),
+                                  os.path.exists(self.asked.wasi_library()))
         if is_small:
-            hints.append("blade-cc: note: give more pages by --memory PAGES")
-        return Stop(BUILD, done.errors.rstrip(), *hints)
+            told.append("blade-cc: note: give more pages by --memory PAGES")
+        return Stop(BUILD, *told)
+
+    def callers(self) -> Dict[str, List[str]]:
+        """Of each function that no object defines those that call it: the objects are linked once more, with
+        these functions as imports."""
+        open_end = f"{self.folder}/undefined.wasm"
+        done = self.runner.run([*self.linked_by, "--allow-undefined", "-o", open_end])
+        return {} if done.status else callers_of(read_module(open_end))
 
     def inputs(self) -> List[Input]:
         """All that the linker opened."""

@@ -9,21 +9,18 @@ import sys
 from typing import List, Sequence, Set, Tuple
 
 from ..formats.reading import Bad
-from ..printing import printable
+from ..printing import printable, say
 from ..writing import write_file as written_to
 from .arguments import BUILD, LABELS, USAGE, Asked, Stop
+from .missing import about_headers
 from .opaque import BY_WORDS, MARK, Unit, opaque
 from .prototypes import differing
-from .refusals import about_headers
 from .tools import HERE, INCLUDE, Runner, found
 
 # wasm-opt 108 can't read DWARF 5.
 TARGET = ["--target=wasm32", "-mcpu=mvp", "-gdwarf-4"]
 IMPLICIT = "-Werror=implicit-int"  # a macro of blade.h without blade.h would be a variable
 VISIBLE = "-fvisibility=default"  # else clang hides all functions of this target
-# as Debian's wasi-libc stands there, and wasi-sdk's in its own folder
-WASI = os.environ.get("WASI_SYSROOT", "/usr")
-WASI_HEADERS = f"{WASI}/include/wasm32-wasi"
 ASSEMBLER = (".s", ".S")
 BEFORE = ["-S", "-emit-llvm", "-Xclang", "-disable-llvm-passes", "-fno-discard-value-names"]
 # Words of the first step that the second one has no use for, by themselves or with the word behind them.
@@ -37,6 +34,19 @@ class Compiler:
 
     def __init__(self, asked: Asked, runner: Runner) -> None:
         self.asked, self.runner = asked, runner
+        self.last: List[str] = []  # words for headers that count only if no other folder has them
+
+    def empty_headers(self, folder: str) -> None:
+        """Makes the headers of --config-h, empty, in a folder, and says so."""
+        for name in self.asked.empty_headers:
+            path = f"{folder}/{name}"
+            above = os.path.dirname(path)
+            os.makedirs(above, exist_ok=True)
+            self.runner.show_text(f"mkdir -p {shlex.quote(above)} && : > {shlex.quote(path)}")
+            written_to(path, b"")
+            say(f"blade-cc: note: {name}: {path}, which is empty, counts if no folder of -I has another one: "
+                "what the code asks for by HAVE_.. counts as missing", sys.stderr)
+            self.last = ["-idirafter", folder]
 
     def words(self, source: str) -> List[str]:
         asked = self.asked
@@ -47,10 +57,11 @@ class Compiler:
         if asked.way:
             words.append(f"-D{asked.way.upper()}")
         headers = ["-isystem", INCLUDE, "-DBLADE_CC", "-isystem", os.path.join(INCLUDE, "freestanding")]
-        if os.path.isdir(WASI_HEADERS):
+        library = asked.wasi_headers()
+        if os.path.isdir(library):
             # Its headers ask for the macro.
-            headers += ["-isystem", WASI_HEADERS, "-D__wasi__"]
-        return words + headers + asked.flags
+            headers += ["-isystem", library, "-D__wasi__"]
+        return words + headers + self.last + asked.flags
 
     def compile(self, pairs: Sequence[Tuple[str, str]], folder: str, last: str = "-c") -> None:
         """Makes the objects of sources, with what stands between in a folder. Where one has marked values the

@@ -7,7 +7,7 @@ import os
 import re
 from typing import Dict, Iterable, List, NamedTuple, Optional, Sequence, Set, Tuple
 
-from ..formats.labels import KINDS
+from ..formats.labels import KINDS, count_text
 from ..formats.reading import Bad
 from .assumptions import without_assumptions
 from .ir import INLINE_LINKAGE, Defined, Param, Text, is_symbol_of, mentions, size_of
@@ -105,8 +105,8 @@ def asked_name(one: Defined, which: str) -> str:
         return which
     if int(which) not in one.numbered:
         count = len(one.numbered)
-        raise Bad(f"{one.name} has {count} parameters with names in C, "
-                  f"and no parameter {which} (numbers count C's parameters from 0)" if count else
+        raise Bad(f"secret-param {one.name} {which}: {one.name} has {count_text(count, 'parameter')} in C "
+                  "(counted from 0)" if count else
                   f"parameter {which} of {one.name} can't be told: compile with -g, or give its name")
     if list(one.numbered.values()).count(one.numbered[int(which)]) > 1:
         raise Bad(f"several parameters of {one.name} are called {one.numbered[int(which)]}: "

@@ -2,12 +2,10 @@
 Licence: public domain (CC0)."""
 from __future__ import annotations
 
-import re
-from typing import Iterable, List, NamedTuple, Optional
+from typing import List, NamedTuple, Optional
 
 from ..formats.instructions import BLOCKS, BR_TABLE, END, read_instruction, read_locals
 from ..formats.reading import Reader
-from .tools import INCLUDE
 from ..formats.module import FUNCTION, GLOBAL, MEMORY, TABLE, Import, Module
 
 FLOAT_TYPES = (0x7C, 0x7D)
@@ -141,30 +139,3 @@ def not_given(one: Import, is_mismatch: bool) -> Refusal:
     return Refusal(-1, -1, f"the {SORTS[one.sort]} {one.name} is imported from {one.module}, "
                    f"which {why}{more}: give a file that defines it, or leave out what "
                    "uses it [blade-import]")
-
-
-def about_headers(errors: str) -> List[str]:
-    """What to do about headers that clang doesn't find, and about a clang that can't make WebAssembly."""
-    missing = dict.fromkeys(re.findall(r"fatal error: '([^']+)' file not found", errors))
-    told = [f"blade-cc: note: {name}: {INCLUDE}/freestanding has what blade-cc has of a C library; "
-            "apt-get install wasi-libc has more, and -I names folders"
-            for name in missing]
-    if "No available targets" in errors or "unable to create target" in errors:
-        told.append("blade-cc: note: this clang lacks WebAssembly: apt-get install clang")
-    return told
-
-
-def about_symbols(missing: Iterable[str]) -> List[str]:
-    """What to do about names that the linker doesn't find."""
-    told = []
-    for name in sorted(missing):
-        if re.fullmatch(r"__\w*?(mul|div|mod|ashl|ashr|lshr)\w*t[if]\d|__multi3", name):
-            told.append(f"{name} is made of __int128: apt-get install libclang-rt-14-dev-wasm32 (or of "
-                        "your clang's version), or use smaller products")
-        elif re.fullmatch(r"__\w+(sf|df|tf)\w*\d?", name):
-            told.append(f"{name} is made of floats, which blade doesn't take")
-        else:
-            told.append(f"{name} stands in no file that was given: name its file; "
-                        "of the C library blade-cc has memcpy, memmove, memset and memcmp, and "
-                        "apt-get install wasi-libc has the rest")
-    return [f"blade-cc: note: {one}" for one in told]

@@ -4,7 +4,7 @@ from __future__ import annotations
 
 import os
 from dataclasses import dataclass, field
-from typing import Container, Dict, List, NamedTuple, Optional, Tuple
+from typing import Callable, Container, Dict, List, NamedTuple, Optional, Tuple
 
 from .operators import ARITIES, DIVISIONS, LOADS, STORES
 from .reading import Bad, Reader, limited, read_file
@@ -37,6 +37,7 @@ class Command(NamedTuple):
     targets: Tuple[int, ...] = ()
     offset: int = 0  # of an access
     mark: int = 0  # the depth, and 8 where a protect stands
+    trap: int = 0  # the kind of a Trap
 
     @property
     def is_protected(self) -> bool:
@@ -52,10 +53,27 @@ class Function:
     first: int = 0  # its first variable
     entry: int = 0  # the position of its first command
     types: List[int] = field(default_factory=list)  # of its parameters, as they are spelled
+    result_types: List[int] = field(default_factory=list)
 
     @property
     def params(self) -> int:
         return len(self.secret_params)
+
+    @property
+    def parameter_variables(self) -> range:
+        return range(self.first, self.first + self.params)
+
+    @property
+    def result_variables(self) -> range:
+        return range(self.first + self.params, self.first + self.params + self.results)
+
+    def has_local(self, variable: int) -> bool:
+        """Whether a variable is a parameter or a local of this function."""
+        is_own = self.first <= variable < self.first + self.variables
+        return is_own and variable not in self.result_variables
+
+    def has_command(self, position: int) -> bool:
+        return self.entry <= position < self.entry + self.length
 
 
 @dataclass
@@ -78,21 +96,36 @@ class Image:
     weights: Dict[int, int]
     commands: List[Command] = field(default_factory=list)
     variables: int = 0  # how many there are
+    global_types: List[int] = field(default_factory=list)
+    names: List[Tuple[bytes, int]] = field(default_factory=list)  # of the exports, each with its function
+
+    @property
+    def shared(self) -> int:
+        """How many variables are globals and sizes of memories."""
+        return len(self.first_globals) + len(self.memories)
 
     @property
     def secret_memories(self) -> List[bool]:
         return [memory.is_secret for memory in self.memories]
 
-    def function_at(self, position: int) -> int:
-        """The function whose command stands at a position; -1 for a trap."""
+    def last(self, begins: Callable[[Function], bool]) -> int:
+        """The last function that begins early enough; -1 if none does."""
         low, high = 0, len(self.functions)
         while low < high:
             middle = (low + high) // 2
-            if self.functions[middle].entry <= position:
+            if begins(self.functions[middle]):
                 low = middle + 1
             else:
                 high = middle
         return low - 1
+
+    def function_at(self, position: int) -> int:
+        """The function whose command stands at a position; -1 for a trap."""
+        return self.last(lambda function: function.entry <= position)
+
+    def function_of(self, variable: int) -> Function:
+        """The function that a variable belongs to which isn't shared."""
+        return self.functions[self.last(lambda function: function.first <= variable)]
 
     def weight(self, position: int) -> int:
         """The weight of a site: the listed one, else 10 to the power of its depth."""
@@ -110,14 +143,7 @@ class Image:
             return f"global {variable}"
         if variable < len(self.secret_globals) + len(self.memories):
             return f"size of memory {variable - len(self.secret_globals)}"
-        low, high = 0, len(self.functions)
-        while low < high:
-            middle = (low + high) // 2
-            if self.functions[middle].first <= variable:
-                low = middle + 1
-            else:
-                high = middle
-        function = self.functions[low - 1]
+        function = self.function_of(variable)
         index = variable - function.first
         if index < function.params:
             return f"p{index}"
@@ -126,13 +152,13 @@ class Image:
         return f"v{index}"
 
 
-def rising(reader: Reader, rest: int) -> List[Tuple[int, bytes]]:
+def rising(reader: ImageReader, rest: int) -> List[Tuple[int, bytes]]:
     """Things whose numbers rise, each spelled by how far it is from the least one; rest is how many bytes
     follow, or -1 for a number."""
     found, least = [], 0
     for _ in range(reader.number()):
         number = least + reader.number()
-        found.append((number, reader.take(rest) if rest >= 0 else reader.number()))
+        found.append((number, reader.take(rest) if rest >= 0 else reader.number(64)))
         least = number + 1
     return found
 
@@ -144,13 +170,23 @@ def value_type(reader: Reader) -> int:
     return kind
 
 
-def read_global(reader: Reader) -> Tuple[bool, int]:
-    """Whether a global is secret, and its first value."""
-    value_type(reader)
-    return reader.bit(), reader.number()
+class ImageReader(Reader):
+    """Reads the bytes of an image, whose numbers have their shortest spelling."""
+
+    def number(self, bits: int = 32) -> int:
+        begin = self.place
+        value = super().number()
+        if value >> bits or self.place - begin > 1 and not self.data[self.place - 1]:
+            raise Bad("this is no image: a number")
+        return value
 
 
-def read_memory(reader: Reader) -> Memory:
+def read_global(reader: ImageReader) -> Tuple[int, bool, int]:
+    """A global's type, whether it is secret, and its first value."""
+    return value_type(reader), reader.bit(), reader.number(64)
+
+
+def read_memory(reader: ImageReader) -> Memory:
     memory = Memory(reader.number(), reader.number(), reader.bit(), rising(reader, 16))
     limited("memory", memory.reserve)
     if memory.pages > memory.reserve or memory.rows and (memory.rows[-1][0] + 1) * 16 > memory.pages * 65536:
@@ -160,16 +196,16 @@ def read_memory(reader: Reader) -> Memory:
 
 def read_function(reader: Reader) -> Function:
     params = reader.many(lambda: (value_type(reader), reader.bit()))
-    results = len(reader.many(lambda: value_type(reader)))
-    function = Function([secret for _, secret in params], results, reader.number(), reader.number(),
-                        types=[kind for kind, _ in params])
-    if not function.length or function.variables < function.params + results:
+    results = reader.many(lambda: value_type(reader))
+    function = Function([secret for _, secret in params], len(results), reader.number(), reader.number(),
+                        types=[kind for kind, _ in params], result_types=results)
+    if not function.length or function.variables < function.params + function.results:
         raise Bad("image: rule 2 at 0")
     return function
 
 
-def read_export(reader: Reader) -> Tuple[str, int]:
-    name = reader.text()
+def read_export(reader: Reader) -> Tuple[bytes, int]:
+    name = reader.block()
     return name, reader.number()
 
 
@@ -178,7 +214,7 @@ def read_demand(reader: Reader) -> Tuple[Optional[int], int]:
     return (reader.number(), reader.number()) if reader.byte() == 0 else (None, reader.number())
 
 
-def read_head(reader: Reader) -> Image:
+def read_head(reader: ImageReader) -> Image:
     """All that stands before the commands."""
     if reader.data[:4] != b"BLIM":
         raise Bad("this is no image")
@@ -190,13 +226,17 @@ def read_head(reader: Reader) -> Image:
     memories = reader.many(lambda: read_memory(reader))
     functions = reader.many(lambda: read_function(reader))
     exports: Dict[int, str] = {}
-    entries = dict(reader.many(lambda: read_export(reader)))
+    names = reader.many(lambda: read_export(reader))
+    entries = {name.decode("utf-8", "replace"): function for name, function in names}
     for name, function in entries.items():
         exports.setdefault(function, called(name))
     demands = reader.many(lambda: read_demand(reader)) if version == 2 else []
     weights = dict(rising(reader, -1)) if version == 2 else {}
-    return Image([one[0] for one in listed], [one[1] for one in listed], memories, functions, exports,
-                 entries, demands, weights)
+    if version == 2 and not demands and not weights:
+        raise Bad("this is no image: its version")
+    return Image([secret for _, secret, _ in listed], [value for _, _, value in listed], memories, functions,
+                 exports, entries, demands, weights, global_types=[kind for kind, _, _ in listed],
+                 names=names)
 
 
 def check_head(image: Image) -> None:
@@ -233,7 +273,7 @@ def named(operands: Tuple[Operand, ...]) -> Tuple[int, ...]:
 class CommandReader:
     """Reads the commands of one function after another, as far as rules 4 to 6 of programs hold."""
 
-    def __init__(self, reader: Reader, image: Image) -> None:
+    def __init__(self, reader: ImageReader, image: Image) -> None:
         self.reader, self.image = reader, image
         self.readers = [self.set, self.load, self.store, self.test, self.jump, self.arg, self.call, self.out,
                         self.ret, self.trap]
@@ -249,7 +289,7 @@ class CommandReader:
         return number
 
     def operand(self) -> Operand:
-        return Operand(False, self.reader.number()) if self.reader.bit() else Operand(True, self.variable())
+        return Operand(False, self.reader.number(64)) if self.reader.bit() else Operand(True, self.variable())
 
     def mark(self) -> int:
         """The depth, and 8 where a protect stands."""
@@ -320,11 +360,10 @@ class CommandReader:
         return Command("Ret")
 
     def trap(self, _: Function) -> Command:
-        self.code(range(8))
-        return Command("Trap")
+        return Command("Trap", trap=self.code(range(8)))
 
     def all(self) -> List[Command]:
-        commands = [Command("Trap")] * TRAPS
+        commands = [Command("Trap", trap=kind) for kind in range(TRAPS)]
         for function in self.image.functions:
             for _ in range(function.length):
                 self.position = len(commands)
@@ -343,7 +382,7 @@ def image_at(path: str) -> Image:
 
 
 def read_image(data: bytes) -> Image:
-    reader = Reader(data)
+    reader = ImageReader(data)
     image = read_head(reader)
     check_head(image)
     lay_out(image)

@@ -8,8 +8,9 @@ from typing import Dict, List, Sequence, Tuple
 
 from . import encoding
 from .encoding import custom, leb, vector
-from .reading import Bad, Reader
+from .reading import Bad, LostLabel, Reader
 from .module import FUNCTION, GLOBAL, MEMORY, Module
+from ..printing import called
 
 NAME = "blade.labels"
 SUM = "blade.sum"  # the section that says for which code the labels were made
@@ -34,6 +35,8 @@ KINDS: Dict[str, Kind] = {
     "public-global": Kind(4, ("global",), True),
 }
 Entry = Tuple[str, Tuple[int, ...]]
+# How help texts call what the numbers of an entry name.
+LETTERS = {"function": "F", "parameter": "I", "result": "I", "global": "G", "memory": "M"}
 
 
 def section_of(entries: Sequence[Entry]) -> bytes:
@@ -65,9 +68,9 @@ def is_changed(module: Module) -> bool:
 
 def refuse_changed(module: Module) -> None:
     if is_changed(module):
-        raise Bad(f"{module.name}: its code isn't what its labels were made for: "
-                  "another tool has changed it since, so label what it makes "
-                  "(blade-label --replace)")
+        raise LostLabel(f"{module.name}: its code isn't what its labels were made for: "
+                        "another tool has changed it since, so label what it makes "
+                        "(blade-label --replace)")
 
 
 def is_labelled(module: Module) -> bool:
@@ -128,20 +131,43 @@ def counts_of(module: Module, kind: str, numbers: Sequence[int]) -> List[Tuple[i
     return ranges
 
 
+def name_of(module: Module, kind: str, number: int) -> str:
+    """The name of a function or a global, where it has one; else its number."""
+    if KINDS[kind].names[0] == "function" and number < len(module.functions):
+        return called(module.function_name(number))
+    return called(module.global_names.get(number, str(number)) if KINDS[kind].names == ("global",)
+                  else str(number))
+
+
+def count_text(number: int, what: str) -> str:
+    """A number of things, as in: 3 parameters, 1 memory, no global."""
+    plural = f"{what[:-1]}ies" if what.endswith("y") else f"{what}s"
+    return f"{number or 'no'} {what if number < 2 else plural}"
+
+
 def check(module: Module, entries: Sequence[Entry]) -> None:
     """Refuses what the program would refuse: what doesn't exist, is imported, or is named twice."""
     seen: Dict[Entry, str] = {}
     for kind, numbers in entries:
-        told = f"{kind} {' '.join(map(str, numbers))}"
-        for what, number, (least, end) in zip(KINDS[kind].names, numbers, counts_of(module, kind, numbers)):
+        name = name_of(module, kind, numbers[0])
+        told = " ".join([kind, name, *map(str, numbers[1:])])
+        for what, number, (least, end), owner in zip(KINDS[kind].names, numbers,
+                                                     counts_of(module, kind, numbers), ("the module", name)):
             if number >= end:
-                raise Bad(f"{told}: there is no {what} {number}, but {end} of them")
+                raise Bad(f"{told}: {owner} has {count_text(end, what)}"
+                          + (" (counted from 0)" if 0 < end == number else ""))
             if number < least:
                 raise Bad(f"{told}: {what} {number} is imported; label it in its own module")
         key = ("global" if KINDS[kind].names == ("global",) else kind, numbers)
         if key in seen:
             raise Bad(f"{told}: named before, by {seen[key]}")
         seen[key] = told
+
+
+def kinds_text() -> str:
+    """The kinds, with what stands behind each."""
+    *others, last = (" ".join([kind, *(LETTERS[name] for name in one.names)]) for kind, one in KINDS.items())
+    return f"the kinds are {', '.join(others)} and {last}"
 
 
 def entries_in(module: Module, words: Sequence[str]) -> List[Entry]:
@@ -151,11 +177,11 @@ def entries_in(module: Module, words: Sequence[str]) -> List[Entry]:
     while place < len(words):
         kind = words[place]
         if kind not in KINDS:
-            raise Bad(f"no kind of entry: {kind}")
+            raise Bad(f"{kind} is no kind of label: {kinds_text()}")
         names = KINDS[kind].names
         given = words[place + 1 : place + 1 + len(names)]
         if len(given) < len(names):
-            raise Bad(f"too few numbers behind {kind}")
+            raise Bad(f"too few words behind {kind}: {kinds_text()}")
         found.append((kind, tuple(number_of(module, what, word) for what, word in zip(names, given))))
         place += 1 + len(names)
     return found

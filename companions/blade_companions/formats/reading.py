@@ -4,6 +4,8 @@ from __future__ import annotations
 import sys
 from typing import BinaryIO, Callable, List, TypeVar
 
+from ..statuses import GAVE_UP, INPUT, LOST
+
 Item = TypeVar("Item")
 # The limits of docs/CLI.md: bytes of files, then numbers.
 LIMITS = {
@@ -15,7 +17,21 @@ MOST_CALLS = 1_024
 
 
 class Bad(Exception):
-    """A file, or a word, that isn't as it should be."""
+    """A file, or a word, that isn't as it should be. A tool that can't go on ends with its status."""
+
+    status = INPUT
+
+
+class GaveUp(Bad):
+    """There is no answer, and the files aren't the reason."""
+
+    status = GAVE_UP
+
+
+class LostLabel(Bad):
+    """A label doesn't speak of the code any more."""
+
+    status = LOST
 
 
 def limited(what: str, number: int) -> int:

@@ -5,7 +5,7 @@ from __future__ import annotations
 import re
 from collections import Counter
 from dataclasses import dataclass, field
-from typing import Callable, Dict, Iterator, List, Optional, Tuple
+from typing import Callable, Dict, Iterator, List, Optional, Sequence, Tuple
 
 from .image import TRAPS, Command, Image, Operand
 from .operators import ACCESS_NAMES, DIVISIONS, MOVE, OPERATIONS, OPERATORS, OUTSIDE, SELECT, width_of
@@ -101,6 +101,12 @@ def read_start(text: str) -> Start:
         else:
             raise Bad(f"start: line {number}")
     return start
+
+
+def start_text(arguments: Sequence[int], contents: Sequence[Tuple[int, int, bytes]]) -> str:
+    """A start file of arguments and bytes: memory, offset, bytes."""
+    return "\n".join([f"arg {value}" for value in arguments]
+                     + [f"memory {number} {offset} {data.hex()}" for number, offset, data in contents]) + "\n"
 
 
 def fits(image: Image, function: int, start: Start) -> None:

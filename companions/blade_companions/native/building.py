@@ -6,7 +6,7 @@ import shutil
 import subprocess
 from typing import Sequence
 
-from ..formats.reading import Bad
+from ..formats.reading import Bad, GaveUp
 
 # No tables: a jump through a table is a guess of its own, and under a wrong guess a table may be read past
 # its end.
@@ -54,7 +54,7 @@ BY_FAMILY = {
 def family(compiler: str) -> str:
     """gcc or clang, by what the compiler says of itself."""
     if not shutil.which(compiler):
-        raise Bad(f"{compiler} is no compiler that is installed")
+        raise GaveUp(f"{compiler} is no compiler that is installed")
     told = subprocess.run([compiler, "--version"], capture_output=True, text=True, check=False).stdout.lower()
     return "clang" if "clang" in told else "gcc"
 
@@ -62,7 +62,7 @@ def family(compiler: str) -> str:
 def ran(words: Sequence[str], what: str) -> None:
     """Runs a tool that has to succeed."""
     if not shutil.which(words[0]):
-        raise Bad(f"there is no {words[0]} here")
+        raise GaveUp(f"there is no {words[0]} here")
     done = subprocess.run(words, capture_output=True, text=True, errors="replace", check=False)
     if done.returncode:
         raise Bad(f"{words[0]} doesn't {what}: {done.stderr.strip()[:600]}")

@@ -8,12 +8,13 @@ from __future__ import annotations
 import re
 from typing import Callable, Dict, Iterator, List, NamedTuple, Optional, Set
 
-from formats.read import ARG, CALL, LOAD, MOVE, OUT, QUOTIENTS, SET, TEST, TRAPS, VARIABLE
+from ..formats.image import TRAPS, Image
+from ..formats.operators import DIVISIONS, MOVE
 
 from .disassembly import Code, Instruction, disassemble, is_register, reads, whole, writes
 from .emission import MOST_CALLS, counts_depth
 from .flow import reachable
-from .reading import Module, secret_variables, transient_variables
+from .reading import calls, secret_variables, transient_variables
 
 FUNCTION = re.compile(r"^f(\d+)(?:\.[a-z0-9.]+)?$")
 TRAP = re.compile(
@@ -32,40 +33,36 @@ class Checked(NamedTuple):
     barriers: int
 
 
-def called_functions(module: Module) -> Set[int]:
+def called_functions(image: Image) -> Set[int]:
     """The functions that an export leads to."""
-    calls = module.calls()
-    found = {function for _, function in module.program.exports}
+    called = calls(image)
+    found = {function for _, function in image.names}
     waiting = list(found)
     while waiting:
-        new = calls[waiting.pop()] - found
+        new = called[waiting.pop()] - found
         found |= new
         waiting += new
     return found
 
 
-def expected_protects(module: Module) -> Set[int]:
+def expected_protects(image: Image) -> Set[int]:
     """The protected positions that some run may come to."""
-    program, found = module.program, set()
-    for number in called_functions(module):
-        reached = reachable(program, program.functions[number].entry)
-        found |= {position for position in reached if program.at(position).is_protected()}
+    found = set()
+    for number in called_functions(image):
+        reached = reachable(image, image.functions[number].entry)
+        found |= {position for position in reached if image.commands[position].is_protected}
     return found
 
 
-def deciding_variables(module: Module) -> Set[int]:
+def deciding_variables(image: Image) -> Set[int]:
     """The variables that the conditions of Tests are made of, through Sets whose values the compiler may look
     into."""
-    program = module.program
-    guarded = secret_variables(program) | transient_variables(program)
+    guarded = secret_variables(image) | transient_variables(image)
     reads_of: Dict[int, Set[int]] = {}
-    for command in program.commands:
-        if command.code in (SET, LOAD) and command.variable not in guarded:
-            reads_of.setdefault(command.variable, set()).update(
-                [] if command.is_protected() else command.reads()
-            )
-    tests = (command for command in program.commands if command.code == TEST)
-    found = {number for command in tests for spelling, number in command.operands if spelling == VARIABLE}
+    for command in image.commands:
+        if command.kind in ("Set", "Load") and command.writes not in guarded:
+            reads_of.setdefault(command.writes, set()).update([] if command.is_protected else command.reads)
+    found = {variable for command in image.commands if command.kind == "Test" for variable in command.sinks}
     waiting = list(found)
     while waiting:
         new = reads_of.get(waiting.pop(), set()) - found
@@ -84,10 +81,10 @@ def is_spill(one: Instruction, register: str) -> bool:
 class Check:
     """The check of one object or linked file."""
 
-    def __init__(self, module: Module, path: str, name: str, line_of: Callable[[int], str]) -> None:
-        self.module, self.program, self.line_of = module, module.program, line_of
-        self.deciding = deciding_variables(module)
-        self.counts_depth = counts_depth(module.calls())
+    def __init__(self, image: Image, path: str, name: str, line_of: Callable[[int], str]) -> None:
+        self.image, self.line_of = image, line_of
+        self.deciding = deciding_variables(image)
+        self.counts_depth = counts_depth(calls(image))
         found = disassemble(path, name, lambda symbol: bool(TRAP.match(symbol) or FUNCTION.match(symbol)))
         self.codes = [code for code in found if FUNCTION.match(code.name)]
         self.addresses = {one.address for code in self.codes for one in code.instructions}
@@ -96,22 +93,23 @@ class Check:
         self.branches = self.joined = self.barriers = 0
         self.met: Set[int] = set()  # the protects that have a barrier
         self.readers_of: Dict[int, List[int]] = {}
-        for position, command in enumerate(self.program.commands, TRAPS):
-            for spelling, number in command.operands:
-                if spelling == VARIABLE:
-                    self.readers_of.setdefault(number, []).append(position)
+        for position, command in enumerate(image.commands):
+            for is_variable, value in command.operands:
+                if is_variable:
+                    self.readers_of.setdefault(value, []).append(position)
 
     # ---- branches, calls, tables
 
     def may_branch(self, position: Optional[int]) -> bool:
         """Whether the command may have a branch: a Test, what the condition of a Test is made of, a division,
         whose operands an observer learns anyway, or a Call that tests the depth."""
-        command = self.program.at(position) if position is not None else None
-        if command is None:
+        if position is None or not TRAPS <= position < len(self.image.commands):
             return False
-        is_division = command.code == SET and command.operator in QUOTIENTS
-        decides = command.code in (SET, LOAD) and command.variable in self.deciding
-        return command.code == TEST or decides or is_division or command.code == CALL and self.counts_depth
+        command = self.image.commands[position]
+        is_division = command.kind == "Set" and command.operator in DIVISIONS
+        decides = command.kind in ("Set", "Load") and command.writes in self.deciding
+        tests_depth = command.kind == "Call" and self.counts_depth
+        return command.kind == "Test" or decides or is_division or tests_depth
 
     def leaves(self, one: Instruction) -> bool:
         """Whether an instruction names a place outside of the image's functions: by a relocation, or as the
@@ -164,16 +162,18 @@ class Check:
     def readers(self, position: int) -> Set[int]:
         """The commands that read a protected value, also by other names that a move gave it, and the
         protected one itself."""
-        names, found = {self.program.writes(self.program.at(position))}, {position}
+        if not self.is_protected(position):
+            return set()
+        names, found = {self.image.commands[position].writes}, {position}
         waiting = list(names)
         while waiting:
             for reader in self.readers_of.get(waiting.pop(), ()):
                 found.add(reader)
-                command = self.program.at(reader)
-                is_move = command.code in (ARG, OUT) or command.code == SET and command.operator == MOVE
-                if is_move and self.program.writes(command) not in names:
-                    names.add(self.program.writes(command))
-                    waiting.append(self.program.writes(command))
+                command = self.image.commands[reader]
+                is_copy = command.kind == "Set" and command.operator == MOVE
+                if (is_copy or command.kind in ("Arg", "Out")) and command.writes not in names:
+                    names.add(command.writes)
+                    waiting.append(command.writes)
         return found
 
     def early_readers(
@@ -252,13 +252,12 @@ class Check:
                 yield f"a barrier stands at {position}, which isn't protected"
 
     def is_protected(self, position: int) -> bool:
-        is_there = TRAPS <= position < TRAPS + len(self.program.commands)
-        return is_there and self.program.at(position).is_protected()
+        return position < len(self.image.commands) and self.image.commands[position].is_protected
 
     def run(self) -> Checked:
         findings = [one for code in self.codes for one in self.code(code)]
-        expected = expected_protects(self.module)
-        if not self.codes and called_functions(self.module):
+        expected = expected_protects(self.image)
+        if not self.codes and called_functions(self.image):
             findings.append(NOTHING)
         findings += self.protects(expected)
         return Checked(findings, self.branches, self.joined, len(expected), self.barriers)
@@ -268,6 +267,6 @@ def no_line(_position: int) -> str:
     return ""
 
 
-def check_object(module: Module, path: str, name: str, line_of: Callable[[int], str] = no_line) -> Checked:
+def check_object(image: Image, path: str, name: str, line_of: Callable[[int], str] = no_line) -> Checked:
     """Checks an object that was compiled from NAME.c, or a file that such an object was linked into."""
-    return Check(module, path, name, line_of).run()
+    return Check(image, path, name, line_of).run()

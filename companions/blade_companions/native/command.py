@@ -6,18 +6,19 @@ import os
 import sys
 from typing import Optional, Sequence
 
-from ..ending import ended
+from ..ending import ended, version_line
 from ..formats.reading import Bad
 from ..printing import say
-from .making import DONE, NO, YES, Building, Image, checks, makes, why_not, write
+from ..statuses import GAVE_UP
+from .making import DONE, NO, YES, Building, Given, checks, makes, why_not, write
 from .memchecking import tried
 from .names import identifier, prefix_of
 
-UNREAD = 3
 LEVELS = ("-O1", "-O2", "-O3", "-Os")
 EPILOG = (
     "Status: 0; 1 if the verdict is no, if a file has what the image doesn't allow, or if --test finds "
-    "something; 2 for a usage error; 3 for other errors."
+    "something; 2 for a usage error; 3 for a file that can't be read or compiled; 4 if a tool is missing, or "
+    "if there is nothing to test."
 )
 OPTIONS = (
     (("-o",), {"dest": "output", "metavar": "NAME.c", "help": "write NAME.c, and NAME.h next to it"}),
@@ -75,6 +76,7 @@ def words_of(words: Sequence[str]) -> argparse.Namespace:
         epilog=EPILOG,
         description="Translates a hardened image to C11, with its protects as speculation barriers.",
     )
+    parser.add_argument("--version", action="version", version=version_line("blade-native"))
     parser.add_argument("image", metavar="IMAGE", help="an image that blade has hardened")
     for names, settings in OPTIONS:
         parser.add_argument(*names, **settings)
@@ -117,21 +119,21 @@ def work(words: Sequence[str]) -> int:
     verdict = verdict_of(given) if given.output else YES
     if verdict is None:
         return NO
-    image, status = Image.at(given.image, given.module), DONE
+    known, status = Given.at(given.image, given.module), DONE
     if given.output:
-        write(image, given.output, verdict)
+        write(known, given.output, verdict)
     if given.object or given.library:
-        status = makes(image, Building(given.cc, given.level, given.library), given.output)
+        status = makes(known, Building(given.cc, given.level, given.library), given.output)
     if given.check:
         if not os.path.isfile(given.check):
             raise Bad(f"there is no {given.check}")
         name = identifier(given.name) if given.name else name_in(given.check)
-        status = max(status, DONE if checks(image, given.check, name) else NO)
+        status = max(status, DONE if checks(known, given.check, name) else NO)
     if given.test:
-        status = max(status, DONE if tried(image, given.test, given.cc, given.level) else NO)
+        status = max(status, DONE if tried(known, given.test, given.cc, given.level) else NO)
     return status
 
 
 def main(words: Sequence[str]) -> int:
     """Ends with the status of the command; if nobody reads on, a no still isn't a yes."""
-    return ended("blade-native", lambda: work(words), UNREAD, UNREAD)
+    return ended("blade-native", lambda: work(words), GAVE_UP)

@@ -9,7 +9,7 @@ import subprocess
 from dataclasses import dataclass, field
 from typing import Callable, List, Optional, Set, Tuple
 
-from ..formats.reading import Bad
+from ..formats.reading import Bad, GaveUp
 from ..c.symbolizer import frames_of, symbolizer
 
 SECTION = re.compile(r"^Disassembly of section (.+):$")
@@ -104,7 +104,7 @@ def lines_of(path: str, kind: int) -> List[str]:
     """What objdump prints: relocations too, those of the linker or those of the loader."""
     words = ["objdump", "-d", "-r" if kind == OBJECT else "-R", "--no-show-raw-insn", "-M", "att", path]
     if not shutil.which(words[0]):
-        raise Bad("objdump is needed to check an object")
+        raise GaveUp("objdump is needed to check an object")
     done = subprocess.run(words, capture_output=True, text=True, errors="replace", check=False)
     if done.returncode:
         raise Bad(f"objdump: {done.stderr.strip()[:200]}")
@@ -152,7 +152,7 @@ def attribute(path: str, name: str, codes: List[Code]) -> List[Code]:
     file. Gives the functions that have such lines."""
     tool = symbolizer()
     if tool is None:
-        raise Bad("llvm-symbolizer is needed to check an object")
+        raise GaveUp("llvm-symbolizer is needed to check an object")
     by_address = {one.address: one for code in codes for one in code.instructions}
     for address, frames in frames_of(tool, path, sorted(by_address)):
         one, places = by_address[address], [(os.path.basename(frame.path), frame.line) for frame in frames]

@@ -7,27 +7,11 @@ from __future__ import annotations
 
 from typing import Dict, Iterable, List, Set, Tuple
 
-from formats.read import (
-    ARG,
-    CALL,
-    CONSTANT,
-    JUMP,
-    LOAD,
-    OUT,
-    RET,
-    SET,
-    STORE,
-    TEST,
-    TRAP,
-    TRAPS,
-    VARIABLE,
-    Command,
-    Operand,
-)
+from ..formats.image import TRAPS, Command, Image, Operand
 
 from .flow import Blocks
 from .operators import ACCESS_TABLE, BITS, C_TYPES, MOVE, OUTSIDE, REACH, SELECT, TABLE, constant, loaded
-from .reading import I32, I64, Module, secret_variables, transient_variables
+from .reading import I32, I64, calls, growing, secret_variables, transient_variables
 from .widths import Widths
 
 MOST_CALLS = 1024
@@ -68,26 +52,24 @@ def counts_depth(calls: List[Set[int]]) -> bool:
 
 
 class Emission:
-    """What all functions of a module share: types, which variables are guarded, which memories grow, whether
+    """What all functions of an image share: types, which variables are guarded, which memories grow, whether
     depth is counted."""
 
-    def __init__(self, module: Module, widths: Widths, name: str) -> None:
-        self.module, self.program, self.widths, self.name = module, module.program, widths, name
-        self.guarded = secret_variables(self.program) | transient_variables(self.program)
-        self.growing = module.growing()
-        self.counts_depth = counts_depth(module.calls())
-        self.exported = {function for _, function in self.program.exports}
+    def __init__(self, image: Image, widths: Widths, name: str) -> None:
+        self.image, self.widths, self.name = image, widths, name
+        self.guarded = secret_variables(image) | transient_variables(image)
+        self.growing = growing(image)
+        self.counts_depth = counts_depth(calls(image))
+        self.exported = {function for _, function in image.names}
 
     def type_of(self, variable: int) -> str:
         return C_TYPES[self.widths.of(variable)]
 
     def parameters(self, number: int) -> range:
-        function = self.program.functions[number]
-        return range(function.first, function.result(0))
+        return self.image.functions[number].parameter_variables
 
     def results(self, number: int) -> range:
-        function = self.program.functions[number]
-        return range(function.result(0), function.result(function.results))
+        return self.image.functions[number].result_variables
 
     def returned(self, number: int) -> str:
         """The type in C of what a function returns."""
@@ -110,7 +92,7 @@ class Emission:
     def declarations(self) -> List[str]:
         """The results that a function returns together, and all heads."""
         lines = []
-        for number in range(len(self.program.functions)):
+        for number in range(len(self.image.functions)):
             if len(self.results(number)) > 1:
                 fields = " ".join(
                     f"{self.type_of(variable)} r{variable};" for variable in self.results(number)
@@ -124,12 +106,9 @@ class FunctionEmission:
     """The C of one function."""
 
     def __init__(self, shared_: Emission, number: int) -> None:
-        self.shared, self.program, self.number = shared_, shared_.program, number
-        self.function = self.program.functions[number]
-        self.blocks = Blocks(self.program, self.function.entry)
-        self.targets = {
-            target for position in self.blocks.reached for target in self.program.at(position).targets
-        }
+        self.shared, self.image, self.number = shared_, shared_.image, number
+        self.function, self.commands = self.image.functions[number], self.image.commands
+        self.blocks = Blocks(self.image, self.function.entry)
         self.names = self.named_variables()
         self.returned = {
             number for name, number in self.names.items() if name[0] == "r"
@@ -139,29 +118,27 @@ class FunctionEmission:
 
     def variable(self, number: int) -> str:
         """A global, a size, a local, or what a call returned."""
-        globals_ = len(self.program.globals)
+        globals_ = len(self.image.first_globals)
         if number < globals_:
             return f"m->g{number}"
-        if number < self.program.shared:
+        if number < self.image.shared:
             memory = number - globals_
             return (
                 f"m->pages[{memory}]"
                 if memory in self.shared.growing
-                else f"{self.program.memories[memory].pages}u"
+                else f"{self.image.memories[memory].pages}u"
             )
         return f"v{number}" if self.function.has_local(number) else f"r{number}"
 
     def operand(self, operand: Operand, kind: int) -> str:
-        return (
-            constant(operand.number, kind) if operand.spelling == CONSTANT else self.variable(operand.number)
-        )
+        return self.variable(operand.value) if operand.is_variable else constant(operand.value, kind)
 
     def place(self, memory: int, offset: int, address: Operand) -> str:
         """The place of an access. Its address has 32 bits and its offset another 32: it can't leave the
         memory's reservation."""
-        if address.spelling == CONSTANT:
-            return f"memory{memory} + {constant(address.number + offset, I64)}"
-        return f"memory{memory} + address({self.variable(address.number)})" + (
+        if not address.is_variable:
+            return f"memory{memory} + {constant(address.value + offset, I64)}"
+        return f"memory{memory} + address({self.variable(address.value)})" + (
             f" + {offset}u" if offset else ""
         )
 
@@ -169,7 +146,7 @@ class FunctionEmission:
 
     def value(self, command: Command) -> str:
         """The expression of a Set."""
-        kind = self.shared.widths.of(command.variable)
+        kind = self.shared.widths.of(command.writes)
         if command.operator == MOVE:
             return self.operand(command.operands[0], kind)
         if command.operator == SELECT:
@@ -184,29 +161,29 @@ class FunctionEmission:
 
     def reach(self, operand: Operand) -> str:
         """The low 34 bits of an operand."""
-        if operand.spelling == CONSTANT:
-            return constant(operand.number & REACH, I64)
-        return f"{self.variable(operand.number)} & {constant(REACH, I64)}"
+        if not operand.is_variable:
+            return constant(operand.value & REACH, I64)
+        return f"{self.variable(operand.value)} & {constant(REACH, I64)}"
 
     def written(self, to: str, value: str, position: int, command: Command, hides: bool) -> str:
         """Gives a variable a value, behind a barrier where the command is protected, hidden where it is
         guarded."""
         line = f"{to} = {value};"
-        if command.is_protected():
+        if command.is_protected:
             return f"{line} PROTECT({to}, {position});"
         return f"{line} HIDE({to});" if hides else line
 
     def set(self, position: int, command: Command) -> str:
-        hides = command.operator != MOVE and command.variable in self.shared.guarded
-        return self.written(self.variable(command.variable), self.value(command), position, command, hides)
+        hides = command.operator != MOVE and command.writes in self.shared.guarded
+        return self.written(self.variable(command.writes), self.value(command), position, command, hides)
 
     def load(self, position: int, command: Command) -> str:
-        access = ACCESS_TABLE[self.shared.module.accesses[position]]
+        access = ACCESS_TABLE[command.operator]
         value = loaded(access, self.place(command.memory, command.offset, command.operands[0]))
-        return self.written(self.variable(command.variable), value, position, command, False)
+        return self.written(self.variable(command.writes), value, position, command, False)
 
     def store(self, position: int, command: Command) -> str:
-        access = ACCESS_TABLE[self.shared.module.accesses[position]]
+        access = ACCESS_TABLE[command.operator]
         address, value = command.operands
         place, given = self.place(command.memory, command.offset, address), self.operand(value, access.kind)
         cast = f"(uint{access.bits}_t)" if access.bits < BITS[access.kind] else ""
@@ -214,12 +191,12 @@ class FunctionEmission:
 
     def move(self, position: int, command: Command) -> str:
         """An Arg or an Out."""
-        to = self.program.writes(command)
+        to = command.writes
         value = self.operand(command.operands[0], self.shared.widths.of(to))
-        return self.written(f"{'a' if command.code == ARG else 'o'}{to}", value, position, command, False)
+        return self.written(f"{'a' if command.kind == 'Arg' else 'o'}{to}", value, position, command, False)
 
     def call(self, position: int, command: Command) -> str:
-        callee = command.function
+        callee = self.image.function_at(command.targets[0])
         words = ["m"] + ["depth + 1"] * self.shared.counts_depth
         words += [f"a{variable}" for variable in self.shared.parameters(callee)]
         called, results = f"f{callee}({', '.join(words)});", [
@@ -252,49 +229,48 @@ class FunctionEmission:
         return self.goto(command.targets[0])
 
     def trap(self, _position: int, command: Command) -> str:
-        return f"goto trap{command.kind};"
+        return f"goto trap{command.trap};"
 
     STATEMENTS = {
-        SET: set,
-        LOAD: load,
-        STORE: store,
-        TEST: test,
-        JUMP: jump,
-        ARG: move,
-        CALL: call,
-        OUT: move,
-        RET: ret,
-        TRAP: trap,
+        "Set": set,
+        "Load": load,
+        "Store": store,
+        "Test": test,
+        "Jump": jump,
+        "Arg": move,
+        "Call": call,
+        "Out": move,
+        "Ret": ret,
+        "Trap": trap,
     }
 
     def line(self, position: int) -> str:
         """The line of a position; one that nothing leads to stays empty."""
         if position not in self.blocks.reached:
             return "/* nothing leads here */"
-        command = self.program.at(position)
-        label = f"p{position}: " if position in self.targets else ""
-        return label + self.STATEMENTS[command.code](self, position, command)
+        command = self.commands[position]
+        label = f"p{position}: " if position in self.blocks.labels else ""
+        return label + self.STATEMENTS[command.kind](self, position, command)
 
     # ---- the whole
 
     def named_variables(self) -> Dict[str, int]:
         """The names in C that the commands use, but for parameters, each with its variable: v for a local, a
         for an argument of a call, r for a result of a call, o for a result to give."""
-        known = range(self.program.shared)  # fields of the instance
+        known = range(self.image.shared)  # fields of the instance
         parameters = self.shared.parameters(self.number)
         names: Dict[str, int] = {}
         for position in self.blocks.reached:
-            command = self.program.at(position)
-            used = [number for spelling, number in command.operands if spelling == VARIABLE]
-            used += [command.variable] if command.code in (SET, LOAD) else []
+            command = self.commands[position]
+            used = [value for is_variable, value in command.operands if is_variable]
+            used += [command.writes] if command.kind in ("Set", "Load") else []
             names.update(
                 (self.variable(number), number)
                 for number in used
                 if number not in known and number not in parameters
             )
-            if command.code in (ARG, OUT):
-                to = self.program.writes(command)
-                names[f"{'a' if command.code == ARG else 'o'}{to}"] = to
+            if command.kind in ("Arg", "Out"):
+                names[f"{'a' if command.kind == 'Arg' else 'o'}{command.writes}"] = command.writes
         return names
 
     def declared(self) -> List[str]:
@@ -306,10 +282,10 @@ class FunctionEmission:
 
     def traps(self) -> Iterable[str]:
         """The ends that the function's commands lead to."""
-        commands = [self.program.at(position) for position in self.blocks.reached]
+        commands = [self.commands[position] for position in self.blocks.reached]
         kinds = {target for command in commands for target in command.targets if target < TRAPS}
-        kinds |= {command.kind for command in commands if command.code == TRAP}
-        if self.shared.counts_depth and any(command.code == CALL for command in commands):
+        kinds |= {command.trap for command in commands if command.kind == "Trap"}
+        if self.shared.counts_depth and any(command.kind == "Call" for command in commands):
             kinds.add(7)
         return [
             f"trap{kind}: trap(m, {self.shared.name.upper()}_{KINDS[kind].upper()});"
@@ -317,13 +293,8 @@ class FunctionEmission:
         ]
 
     def memories(self) -> List[int]:
-        return sorted(
-            {
-                self.program.at(position).memory
-                for position in self.blocks.reached
-                if self.program.at(position).code in (LOAD, STORE)
-            }
-        )
+        commands = (self.commands[position] for position in self.blocks.reached)
+        return sorted({command.memory for command in commands if command.kind in ("Load", "Store")})
 
     def lines(self, first: int) -> List[str]:
         """All lines of the function, of which the first one has a number in the C file."""
@@ -331,7 +302,8 @@ class FunctionEmission:
         head += [f"    uint8_t *const memory{number} = m->memory[{number}];" for number in self.memories()]
         head += self.declared()
         head.append("    (void)m;" + " (void)depth;" * self.shared.counts_depth)
-        body = [f"    {self.line(position)}" for position in self.shared.module.positions(self.number)]
+        end = self.function.entry + self.function.length
+        body = [f"    {self.line(position)}" for position in range(self.function.entry, end)]
         whole = head + [f'#line {self.function.entry} "{self.shared.name}.image"'] + body
         whole.append(f'#line {first + len(whole) + 1} "{self.shared.name}.c"')
         return whole + [f"    {line}" for line in self.traps()] + ["}", ""]

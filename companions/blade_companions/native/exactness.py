@@ -12,12 +12,10 @@ from __future__ import annotations
 
 from typing import Dict, Iterable, List, NamedTuple, Tuple
 
+from ..formats.image import Image
 from ..formats.reading import Bad
-from formats.read import ARG, CALL, LOAD, OUT, RET, SET, VARIABLE
-from formats.read import Function as Callee
 
 from .flow import Blocks
-from .reading import Module
 
 Fact = Tuple[
     str, int
@@ -40,44 +38,32 @@ class Inexact(Bad):
 class Function:
     """The assignments of one function."""
 
-    def __init__(self, module: Module, number: int) -> None:
-        self.module, self.program = module, module.program
-        self.function = self.program.functions[number]
-        self.blocks = Blocks(self.program, self.function.entry)
+    def __init__(self, image: Image, number: int) -> None:
+        self.image, self.function = image, image.functions[number]
+        self.blocks = Blocks(image, self.function.entry)
         self.bits: Dict[Fact, int] = {}
-
-    def parameters(self, callee: int) -> Iterable[int]:
-        function = self.program.functions[callee]
-        return range(function.first, function.result(0))
-
-    def results(self, function: Callee) -> Iterable[int]:
-        return range(function.result(0), function.result(function.results))
 
     def read_fact(self, variable: int) -> Fact:
         """Who holds a variable that isn't shared: a result is that of a call."""
         return (LOCAL if self.function.has_local(variable) else RETURNED, variable)
 
     def effect(self, position: int) -> Effect:
-        command, function = self.program.at(position), self.function
-        needs = [
-            self.read_fact(number)
-            for spelling, number in command.operands
-            if spelling == VARIABLE and number >= self.program.shared
-        ]
-        if command.code in (SET, LOAD):
-            return Effect(
-                needs, [(LOCAL, command.variable)] if command.variable >= self.program.shared else []
-            )
-        if command.code == ARG:
-            return Effect(needs, [(ARGUMENT, self.program.writes(command))])
-        if command.code == OUT:
-            return Effect(needs, [(GIVEN, self.program.writes(command))])
-        if command.code == CALL:
-            callee = self.program.functions[command.function]
-            arguments = [(ARGUMENT, variable) for variable in self.parameters(command.function)]
-            return Effect(arguments, [(RETURNED, variable) for variable in self.results(callee)], takes=True)
-        if command.code == RET:
-            return Effect([(GIVEN, variable) for variable in self.results(function)], [])
+        command, shared = self.image.commands[position], self.image.shared
+        needs = [self.read_fact(value) for is_variable, value in command.operands
+                 if is_variable and value >= shared]
+        if command.kind in ("Set", "Load"):
+            return Effect(needs, [(LOCAL, command.writes)] if command.writes >= shared else [])
+        if command.kind == "Arg":
+            return Effect(needs, [(ARGUMENT, command.writes)])
+        if command.kind == "Out":
+            return Effect(needs, [(GIVEN, command.writes)])
+        if command.kind == "Call":
+            callee = self.image.functions[self.image.function_at(command.targets[0])]
+            arguments = [(ARGUMENT, variable) for variable in callee.parameter_variables]
+            results = [(RETURNED, variable) for variable in callee.result_variables]
+            return Effect(arguments, results, takes=True)
+        if command.kind == "Ret":
+            return Effect([(GIVEN, variable) for variable in self.function.result_variables], [])
         return Effect(needs, [])
 
     def mask(self, facts: Iterable[Fact]) -> int:
@@ -111,9 +97,7 @@ class Function:
         self.arguments = sum(1 << bit for (kind, _), bit in self.bits.items() if kind == ARGUMENT)
         function = self.function
         before = {
-            function.entry: self.mask(
-                (LOCAL, variable) for variable in range(function.first, function.result(0))
-            )
+            function.entry: self.mask((LOCAL, variable) for variable in function.parameter_variables)
         }
         waiting = [function.entry]
         while waiting:
@@ -129,7 +113,7 @@ class Function:
             self.after(first, before[first], check=True)
 
 
-def check_exactness(module: Module) -> None:
+def check_exactness(image: Image) -> None:
     """Refuses an image that C's variables can't stand for."""
-    for number in range(len(module.program.functions)):
-        Function(module, number).run()
+    for number in range(len(image.functions)):
+        Function(image, number).run()

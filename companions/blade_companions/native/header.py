@@ -23,35 +23,71 @@ class Export(NamedTuple):
 
 def heading(emission: Emission, export: Export) -> str:
     """The head of an export's function: parameters by value, results by pointers."""
-    module, name = emission.module, emission.name
+    function, name = emission.image.functions[export.number], emission.name
     words = [f"{name} *m"]
-    kinds = module.parameter_types[export.number]
-    words += [f"{C_TYPES[kind]} {word}" for kind, word in zip(kinds, export.parameters(emission))]
-    words += [f"{C_TYPES[kind]} *r{index}" for index, kind in enumerate(module.result_types[export.number])]
+    words += [f"{C_TYPES[kind]} {word}" for kind, word in zip(function.types, export.parameters(emission))]
+    words += [f"{C_TYPES[kind]} *r{index}" for index, kind in enumerate(function.result_types)]
     return f"{name}_end {name}_{export.word}({', '.join(words)})"
 
 
 def secret_words(emission: Emission, export: Export) -> str:
     """Which parameters are declared secret."""
-    labels = emission.program.functions[export.number].parameters
+    labels = emission.image.functions[export.number].secret_params
     secret = [word for word, is_secret in zip(export.parameters(emission), labels) if is_secret]
     return f"; secret: {', '.join(secret)}" if secret else ""
+
+
+def life(name: str) -> str:
+    """The type of an instance, and what makes and frees one."""
+    return f"""\
+/* An instance has its own memories and globals. One thread at a time may use it. A pointer is an offset in a
+   memory. */
+typedef struct {name} {name};
+{name} *{name}_new(void); /* NULL if the system has no room */
+void {name}_reset({name} *m); /* wipes it, and gives it its first contents again */
+void {name}_free({name} *m); /* wipes it, and gives its room back; NULL is allowed */
+"""
+
+
+def ends(name: str) -> str:
+    """The ends of calls."""
+    upper = name.upper()
+    listed = ", ".join(f"{upper}_{kind.upper()}" for kind in ("ok", *KINDS, "stack_too_small"))
+    return f"""\
+/* How a call ends. After a trap, memories and globals keep what was written before, and there is no result.
+   {upper}_STACK_TOO_SMALL: the thread has less of C's stack left than the call may need; nothing was done. */
+typedef enum {{ {listed} }} {name}_end;
+const char *{name}_end_text({name}_end end);
+"""
+
+
+def accessors(emission: Emission) -> str:
+    """What reads and writes memories and globals."""
+    name, globals_ = emission.name, len(emission.image.first_globals)
+    memories = [
+        f"   memory {number}: {one.pages} to {one.reserve} pages{', secret' if one.is_secret else ''}"
+        for number, one in enumerate(emission.image.memories)
+    ]
+    listed = "\n".join(memories) or "   no memory"
+    return f"""\
+/* Memories are read and written by offsets. If not all bytes are in the memory, the answer is 0, and nothing
+   is done.
+{listed} */
+uint32_t {name}_pages(const {name} *m, uint32_t memory);
+int {name}_read(const {name} *m, uint32_t memory, uint32_t offset, void *to, uint32_t size);
+int {name}_write({name} *m, uint32_t memory, uint32_t offset, const void *from, uint32_t size);
+
+/* Globals are numbered as in the image, which has {globals_}. The answer is 0 if there is no such one. */
+int {name}_global(const {name} *m, uint32_t global, uint64_t *value);
+int {name}_set_global({name} *m, uint32_t global, uint64_t value);
+"""
 
 
 def header(emission: Emission, exports: List[Export], verdict: str = "not verified") -> str:
     """The text of NAME.h."""
     name, upper = emission.name, emission.name.upper()
-    ends = ", ".join(f"{upper}_{kind.upper()}" for kind in ("ok", *KINDS, "stack_too_small"))
-    globals_ = len(emission.program.globals)
     functions = "\n".join(
         f"/* {one.origin}{secret_words(emission, one)} */\n{heading(emission, one)};" for one in exports
-    )
-    memories = (
-        "\n".join(
-            f"   memory {number}: {one.pages} to {one.reserve} pages{', secret' if one.secret else ''}"
-            for number, one in enumerate(emission.program.memories)
-        )
-        or "   no memory"
     )
     return f"""/* Made by blade-native: {verdict}. */
 #ifndef {upper}_H
@@ -61,31 +97,11 @@ def header(emission: Emission, exports: List[Export], verdict: str = "not verifi
 extern "C" {{
 #endif
 
-/* An instance has its own memories and globals. One thread at a time may use it. A pointer is an offset in a
-   memory. */
-typedef struct {name} {name};
-{name} *{name}_new(void); /* NULL if the system has no room */
-void {name}_reset({name} *m); /* wipes it, and gives it its first contents again */
-void {name}_free({name} *m); /* wipes it, and gives its room back; NULL is allowed */
-
-/* How a call ends. After a trap, memories and globals keep what was written before, and there is no result.
-   {upper}_STACK_TOO_SMALL: the thread has less of C's stack left than the call may need; nothing was done. */
-typedef enum {{ {ends} }} {name}_end;
-const char *{name}_end_text({name}_end end);
-
+{life(name)}
+{ends(name)}
 {functions}
 
-/* Memories are read and written by offsets. If not all bytes are in the memory, the answer is 0, and nothing
-   is done.
-{memories} */
-uint32_t {name}_pages(const {name} *m, uint32_t memory);
-int {name}_read(const {name} *m, uint32_t memory, uint32_t offset, void *to, uint32_t size);
-int {name}_write({name} *m, uint32_t memory, uint32_t offset, const void *from, uint32_t size);
-
-/* Globals are numbered as in the image, which has {globals_}. The answer is 0 if there is no such one. */
-int {name}_global(const {name} *m, uint32_t global, uint64_t *value);
-int {name}_set_global({name} *m, uint32_t global, uint64_t value);
-
+{accessors(emission)}
 #ifdef __cplusplus
 }}
 #endif

@@ -10,14 +10,15 @@ import tempfile
 from typing import Iterable, List, NamedTuple, Optional
 
 from ..check import refused_answers
-from ..formats.reading import Bad, read_file
+from ..formats.image import Image
+from ..formats.reading import Bad, GaveUp, read_file
 from ..printing import say
 from ..writing import write_file
 from .building import build, libraries
 from .checking import Checked, check_object
 from .names import prefix_of
 from .origin import Origin
-from .reading import Module, module_of
+from .reading import calls, image_of
 from .stack import frames_in, most_bytes
 from .translation import translate
 
@@ -27,16 +28,16 @@ MOST_FINDINGS = 20  # are printed
 YES = "blade verify says yes to all four questions"
 
 
-class Image(NamedTuple):
+class Given(NamedTuple):
     """An image with what its modules say of it."""
 
-    module: Module
+    image: Image
     origin: Origin
 
     @staticmethod
-    def at(path: str, modules: Iterable[str] = ()) -> Image:
-        data = read_file(path, "image")
-        return Image(module_of(data), Origin(data, list(modules)))
+    def at(path: str, modules: Iterable[str] = ()) -> Given:
+        image = image_of(read_file(path, "image"))
+        return Given(image, Origin(image, list(modules)))
 
 
 class Building(NamedTuple):
@@ -71,13 +72,13 @@ def is_ours(path: str) -> bool:
         return False
 
 
-def write(image: Image, output: str, verdict: str) -> None:
+def write(given: Given, output: str, verdict: str) -> None:
     """Writes NAME.c and NAME.h, but not over files that somebody else wrote. What was compiled from an
     earlier NAME.c is removed."""
     for path in (output, f"{output[:-2]}.h"):
         if os.path.lexists(path) and not is_ours(path):
             raise Bad(f"{path} wasn't made by blade-native, and isn't overwritten")
-    translation = translate(image.module, prefix_of(output), verdict, image.origin)
+    translation = translate(given.image, prefix_of(output), verdict, given.origin)
     for path in filter(os.path.lexists, made_of(output)):
         os.unlink(path)
     write_file(f"{output[:-2]}.h", translation.header.encode("ascii"))
@@ -95,35 +96,35 @@ def is_right(path: str, checked: Checked) -> bool:
     return not checked.findings
 
 
-def checks(image: Image, path: str, name: str) -> bool:
+def checks(given: Given, path: str, name: str) -> bool:
     """Whether an object or a linked file has only what the image allows."""
-    return is_right(path, check_object(image.module, path, name, image.origin.line_of))
+    return is_right(path, check_object(given.image, path, name, given.origin.line_of))
 
 
-def compiled(image: Image, how: Building, source: str, path: str) -> int:
+def compiled(given: Given, how: Building, source: str, path: str) -> int:
     """Compiles an object, and gives how many bytes of C's stack a call may need. It is compiled once to learn
     them, and a second time so that each export tests for them."""
-    calls, usage, more = image.module.calls(), f"{path[:-2]}.su", ["-c", "-fPIC", "-fstack-usage"]
+    called, usage, more = calls(given.image), f"{path[:-2]}.su", ["-c", "-fPIC", "-fstack-usage"]
     build(how.compiler, source, path, how.level, [*more, "-DBLADE_STACK=1"])
-    most = most_bytes(calls, frames_in(usage))
+    most = most_bytes(called, frames_in(usage))
     build(how.compiler, source, path, how.level, [*more, f"-DBLADE_STACK={most}"])
-    if most_bytes(calls, frames_in(usage)) > most:
-        raise Bad("the frames differ from one compilation to the next")
+    if most_bytes(called, frames_in(usage)) > most:
+        raise GaveUp("the frames differ from one compilation to the next")
     return most
 
 
-def makes(image: Image, how: Building, output: str) -> int:
+def makes(given: Given, how: Building, output: str) -> int:
     """Compiles NAME.o and the libraries in a folder of their own, checks them, and puts them in place if
     nothing is found."""
     beside = os.path.dirname(os.path.abspath(output))
     with tempfile.TemporaryDirectory(prefix=".blade-", dir=beside) as folder:
         made = [f"{folder}/{os.path.basename(path)}" for path in made_of(output)]
-        most = compiled(image, how, os.path.abspath(output), made[0])
+        most = compiled(given, how, os.path.abspath(output), made[0])
         if how.makes_libraries:
             libraries(how.compiler, made[0], made[1][:-2])
         name = prefix_of(output)
         linked = [path for path in made if path.endswith((".o", ".so")) and os.path.exists(path)]
-        if not all([checks(image, path, name) for path in linked]):
+        if not all([checks(given, path, name) for path in linked]):
             return NO
         for path, to in zip(made, made_of(output)):
             if os.path.exists(path):
@@ -151,6 +152,6 @@ def native_of(program: str, stem: str, modules: Iterable[str], folder: str, comp
         say(f"blade-native: {fault}", sys.stderr)
         return NO
     os.makedirs(folder, exist_ok=True)
-    output, image = output_of(folder, os.path.basename(stem)), Image.at(f"{stem}.img", modules)
-    write(image, output, YES)
-    return makes(image, Building(compiler), output)
+    output, given = output_of(folder, os.path.basename(stem)), Given.at(f"{stem}.img", modules)
+    write(given, output, YES)
+    return makes(given, Building(compiler), output)

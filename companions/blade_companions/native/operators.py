@@ -7,8 +7,7 @@ from __future__ import annotations
 
 from typing import Dict, NamedTuple, Tuple
 
-from ..formats.operators import ACCESS_NAMES, OPERATORS
-from formats.read import MOVE, OUTSIDE, SELECT
+from ..formats.operators import ACCESS_NAMES, MOVE, OPERATORS, OUTSIDE, SELECT
 
 from .reading import I32, I64
 
@@ -103,7 +102,7 @@ def access_of(name: str) -> Access:
     return Access(kind, int(digits or BITS[kind]), rest.endswith("_s"))
 
 
-ACCESS_TABLE: Dict[str, Access] = {name: access_of(name) for name in ACCESS_NAMES.values()}
+ACCESS_TABLE: Dict[int, Access] = {code: access_of(name) for code, name in ACCESS_NAMES.items()}
 
 
 def loaded(access: Access, place: str) -> str:

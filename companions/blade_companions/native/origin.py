@@ -6,7 +6,7 @@ from typing import Dict, List, Sequence
 
 from ..c.dwarf import subprograms
 from ..c.lines import Lines
-from ..formats.image import read_image
+from ..formats.image import Image
 from ..formats.lowering import LinkedFunction, lower
 from ..formats.module import Module, read_module
 from ..formats.reading import Bad
@@ -17,9 +17,9 @@ from .names import is_parameter
 class Origin:
     """The modules of an image. Modules that would be lowered to other commands are refused."""
 
-    def __init__(self, data: bytes, paths: Sequence[str]) -> None:
+    def __init__(self, image: Image, paths: Sequence[str]) -> None:
         self.functions: List[LinkedFunction] = lower([read_module(path) for path in paths]) if paths else []
-        differ = positions_differ(read_image(data), self.functions) if paths else []
+        differ = positions_differ(image, self.functions) if paths else []
         if differ:
             raise Bad(f"the image wasn't made from this module: {differ[0]}")
         self.lines = Lines(self.functions)

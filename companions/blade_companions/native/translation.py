@@ -5,13 +5,13 @@ import os
 import re
 from typing import Iterator, List, NamedTuple, Optional, Tuple
 
+from ..formats.image import Image
 from .emission import Emission, FunctionEmission
 from .exactness import check_exactness
 from .header import Export, header, heading
 from .names import export_names
 from .operators import C_TYPES
 from .origin import Origin
-from .reading import Module
 from .widths import widths_of
 
 HERE = os.path.dirname(os.path.realpath(__file__))
@@ -44,9 +44,9 @@ def part(name: str) -> str:
         return file.read()
 
 
-def segments(module: Module) -> Iterator[Tuple[int, int, bytes]]:
+def segments(image: Image) -> Iterator[Tuple[int, int, bytes]]:
     """The first contents of memories: the memory, the place, the bytes of rows that follow each other."""
-    for number, memory in enumerate(module.program.memories):
+    for number, memory in enumerate(image.memories):
         first, found = 0, b""
         for row, contents in memory.rows:
             if found and row * ROW != first + len(found):
@@ -60,8 +60,8 @@ def segments(module: Module) -> Iterator[Tuple[int, int, bytes]]:
 
 def instance(emission: Emission) -> List[str]:
     """The instance's fields."""
-    memories, name = len(emission.program.memories), emission.name
-    fields = [f"    {C_TYPES[kind]} g{number};" for number, kind in enumerate(emission.module.global_types)]
+    memories, name = len(emission.image.memories), emission.name
+    fields = [f"    {C_TYPES[kind]} g{number};" for number, kind in enumerate(emission.image.global_types)]
     if memories:
         fields += [f"    uint8_t *memory[{memories}];", f"    uint32_t pages[{memories}];"]
     return [
@@ -75,10 +75,10 @@ def instance(emission: Emission) -> List[str]:
     ]
 
 
-def data(module: Module) -> List[str]:
+def data(image: Image) -> List[str]:
     """The first contents of memories as arrays, and how they are written."""
     lines, calls = [], []
-    for number, (memory, first, contents) in enumerate(segments(module)):
+    for number, (memory, first, contents) in enumerate(segments(image)):
         rows = [contents[at : at + ROW] for at in range(0, len(contents), ROW)]
         lines.append(f"static const uint8_t data{number}[{len(contents)}] = {{")
         lines += ["    " + " ".join(f"{byte}," for byte in row) for row in rows]
@@ -88,22 +88,14 @@ def data(module: Module) -> List[str]:
 
 
 def life(emission: Emission) -> List[str]:
-    """The making, the reset and the end of an instance."""
-    name, memories = emission.name, emission.program.memories
-    numbers = range(len(memories))
+    """The end, the reset and the making of an instance."""
+    name, numbers = emission.name, range(len(emission.image.memories))
+    free = "\n".join(f"    free_memory(m->memory[{at}], m->pages[{at}]);" for at in numbers)
     make = "\n".join(
         f"    m->memory[{at}] = new_memory({one.reserve});\n"
         f"    if (!m->memory[{at}]) {{ {name}_free(m); return NULL; }}"
-        for at, one in enumerate(memories)
+        for at, one in enumerate(emission.image.memories)
     )
-    wipe = "\n".join(f"    wipe(m->memory[{at}], m->pages[{at}] * PAGE);" for at in numbers)
-    begin = "\n".join(
-        [
-            *(f"    m->pages[{at}] = {one.pages}u;" for at, one in enumerate(memories)),
-            *(f"    m->g{at} = UINT64_C({one.value});" for at, one in enumerate(emission.program.globals)),
-        ]
-    )
-    free = "\n".join(f"    free_memory(m->memory[{at}], m->pages[{at}]);" for at in numbers)
     return f"""void {name}_free({name} *m)
 {{
     if (!m) return;
@@ -112,14 +104,7 @@ def life(emission: Emission) -> List[str]:
     free(m);
 }}
 
-void {name}_reset({name} *m)
-{{
-{wipe}
-    wipe(&m->home, sizeof m->home);
-{begin}
-    fill(m);
-}}
-
+{reset(emission)}
 {name} *{name}_new(void)
 {{
     {name} *m = calloc(1, sizeof *m);
@@ -131,6 +116,27 @@ void {name}_reset({name} *m)
 """.split(
         "\n"
     )
+
+
+def reset(emission: Emission) -> str:
+    """What wipes an instance, and gives it its first contents again."""
+    name, image = emission.name, emission.image
+    numbers = range(len(image.memories))
+    wipe = "\n".join(f"    wipe(m->memory[{at}], m->pages[{at}] * PAGE);" for at in numbers)
+    begin = "\n".join(
+        [
+            *(f"    m->pages[{at}] = {one.pages}u;" for at, one in enumerate(image.memories)),
+            *(f"    m->g{at} = UINT64_C({value});" for at, value in enumerate(image.first_globals)),
+        ]
+    )
+    return f"""void {name}_reset({name} *m)
+{{
+{wipe}
+    wipe(&m->home, sizeof m->home);
+{begin}
+    fill(m);
+}}
+"""
 
 
 def entry(emission: Emission, export: Export) -> List[str]:
@@ -158,7 +164,7 @@ def entry(emission: Emission, export: Export) -> List[str]:
 def copies(emission: Emission, word: str, kind: str, bytes_: str, line: str) -> str:
     """A function that reads or writes some bytes of a memory. Under a wrong guess, too, it stays within the
     memory."""
-    memories, name = len(emission.program.memories), emission.name
+    memories, name = len(emission.image.memories), emission.name
     if memories:
         body = f"""    uint32_t is_inside = holds(m->pages, {memories}u, &memory, offset, size);
     offset = select32(offset, 0, is_inside);
@@ -174,15 +180,10 @@ def copies(emission: Emission, word: str, kind: str, bytes_: str, line: str) -> 
     return f"{head}\n{{\n{body}\n}}\n"
 
 
-def accessors(emission: Emission) -> List[str]:
-    """The functions on memories and globals, and the texts of ends."""
-    name, memories, types = emission.name, len(emission.program.memories), emission.module.global_types
-    gets = "".join(f"    case {at}: *value = m->g{at}; return 1;\n" for at in range(len(types)))
-    sets = "".join(
-        f"    case {at}: m->g{at} = ({C_TYPES[kind]})value; return 1;\n" for at, kind in enumerate(types)
-    )
+def of_memories(emission: Emission) -> str:
+    """The functions on memories."""
+    name, memories = emission.name, len(emission.image.memories)
     pages = f"memory < {memories}u ? m->pages[memory] : 0" if memories else "0"
-    texts = ", ".join(f'"{text}"' for text in TEXTS)
     read = copies(
         emission, "read", f"const {name}", "void *to", "memcpy(to, m->memory[memory] + offset, size);"
     )
@@ -196,8 +197,17 @@ def accessors(emission: Emission) -> List[str]:
 }}
 
 {read}
-{write}
-int {name}_global(const {name} *m, uint32_t global, uint64_t *value)
+{write}"""
+
+
+def of_globals(emission: Emission) -> str:
+    """The functions on globals."""
+    name, types = emission.name, emission.image.global_types
+    gets = "".join(f"    case {at}: *value = m->g{at}; return 1;\n" for at in range(len(types)))
+    sets = "".join(
+        f"    case {at}: m->g{at} = ({C_TYPES[kind]})value; return 1;\n" for at, kind in enumerate(types)
+    )
+    return f"""int {name}_global(const {name} *m, uint32_t global, uint64_t *value)
 {{
     (void)m; (void)value;
     switch (global) {{
@@ -212,34 +222,38 @@ int {name}_set_global({name} *m, uint32_t global, uint64_t value)
 {sets}    default: return 0;
     }}
 }}
+"""
 
-const char *{name}_end_text({name}_end end)
+
+def accessors(emission: Emission) -> List[str]:
+    """The functions on memories and globals, and the texts of ends."""
+    name, texts = emission.name, ", ".join(f'"{text}"' for text in TEXTS)
+    of_ends = f"""const char *{name}_end_text({name}_end end)
 {{
     static const char *const texts[] = {{{texts}}};
     return (unsigned)end < sizeof texts / sizeof *texts ? texts[end] : "unknown";
 }}
-""".split(
-        "\n"
-    )
+"""
+    return "\n".join([of_memories(emission), of_globals(emission), of_ends]).split("\n")
 
 
-def exports_of(module: Module, origin: Optional[Origin] = None) -> List[Export]:
+def exports_of(image: Image, origin: Optional[Origin] = None) -> List[Export]:
     """The exports, with the names of parameters that the module gives."""
     found = []
-    for word, number, name in export_names(module.program.exports):
-        count = len(module.parameter_types[number])
+    for word, number, name in export_names(image.names):
+        count = image.functions[number].params
         found.append(Export(word, number, name, origin.parameters(number, count) if origin else ()))
     return found
 
 
 def translate(
-    module: Module, name: str, verdict: str = "not verified", origin: Optional[Origin] = None
+    image: Image, name: str, verdict: str = "not verified", origin: Optional[Origin] = None
 ) -> Translation:
     """The C of an image; one that C's variables can't stand for is refused."""
-    check_exactness(module)
+    check_exactness(image)
     verdict = re.sub(r"[^a-z0-9 :,.-]", "?", verdict)  # it goes into a comment of C
-    emission = Emission(module, widths_of(module), name)
-    exports = exports_of(module, origin)
+    emission = Emission(image, widths_of(image), name)
+    exports = exports_of(image, origin)
     includes = "".join(f"#include <{one}>\n" for one in INCLUDES)
     head = f"""/* Made by blade-native ({verdict}): compile it with `blade-native --object`. */
 #define _GNU_SOURCE
@@ -247,9 +261,9 @@ def translate(
 {includes}
 {part("prelude.h")}
 """
-    lines = head.split("\n")[:-1] + instance(emission) + part("runtime.c").split("\n") + data(module)
+    lines = head.split("\n")[:-1] + instance(emission) + part("runtime.c").split("\n") + data(image)
     lines += emission.declarations() + [""]
-    for number in range(len(module.program.functions)):
+    for number in range(len(image.functions)):
         lines += FunctionEmission(emission, number).lines(len(lines) + 1)
     for export in exports:
         lines += entry(emission, export)

@@ -6,18 +6,18 @@ from __future__ import annotations
 
 from typing import Dict, List, Tuple
 
+from ..formats.image import TRAPS, Command, Image, Operand
 from ..formats.reading import Bad
-from formats.read import ARG, CONSTANT, LOAD, OUT, SET, STORE, TEST, VARIABLE, Command, Operand
 
 from .operators import ACCESS_TABLE, MOVE, OUTSIDE, SELECT, TABLE
-from .reading import I32, I64, Module
+from .reading import I32, I64
 
 
 class Widths:
     """Classes of variables that have one type, and the type where it is known."""
 
-    def __init__(self, module: Module) -> None:
-        self.module, self.program = module, module.program
+    def __init__(self, image: Image) -> None:
+        self.image = image
         self.parent: Dict[int, int] = {}
         self.known: Dict[int, int] = {}
         self.constants: List[
@@ -35,18 +35,18 @@ class Widths:
 
     def is_of(self, operand: Operand, kind: int) -> None:
         """An operand has a type."""
-        if operand.spelling == CONSTANT:
-            if kind == I32 and operand.number >> 32:
+        if not operand.is_variable:
+            if kind == I32 and operand.value >> 32:
                 self.refuse("a constant is no i32")
-        elif self.known.setdefault(self.root(operand.number), kind) != kind:
-            self.refuse(f"v{operand.number} is an i32 and an i64")
+        elif self.known.setdefault(self.root(operand.value), kind) != kind:
+            self.refuse(f"v{operand.value} is an i32 and an i64")
 
     def are_one(self, variable: int, operand: Operand) -> None:
         """A variable has the type of an operand."""
-        if operand.spelling == CONSTANT:
-            self.constants.append((self.position, operand.number, variable))
+        if not operand.is_variable:
+            self.constants.append((self.position, operand.value, variable))
             return
-        one, other = self.root(variable), self.root(operand.number)
+        one, other = self.root(variable), self.root(operand.value)
         if one == other:
             return
         self.parent[one] = other
@@ -56,21 +56,20 @@ class Widths:
 
     def declare(self) -> None:
         """What parameters, results, globals and sizes are declared to be."""
-        for number, kind in enumerate(self.module.global_types):
-            self.known[number] = kind
-        for number in range(len(self.module.global_types), self.program.shared):
+        self.known.update(enumerate(self.image.global_types))
+        for number in range(len(self.image.global_types), self.image.shared):
             self.known[number] = I32
-        for number, function in enumerate(self.program.functions):
-            kinds = self.module.parameter_types[number] + self.module.result_types[number]
+        for function in self.image.functions:
+            kinds = function.types + function.result_types
             self.known.update((function.first + index, kind) for index, kind in enumerate(kinds))
 
     def set(self, command: Command) -> None:
-        to, operands = Operand(VARIABLE, command.variable), command.operands
+        to, operands = Operand(True, command.writes), command.operands
         if command.operator == MOVE:
-            self.are_one(command.variable, operands[0])
+            self.are_one(command.writes, operands[0])
         elif command.operator == SELECT:
-            self.are_one(command.variable, operands[0])
-            self.are_one(command.variable, operands[1])
+            self.are_one(command.writes, operands[0])
+            self.are_one(command.writes, operands[1])
             self.is_of(operands[2], I32)
         else:
             kinds, value = (
@@ -82,37 +81,35 @@ class Widths:
 
     def command(self, command: Command) -> None:
         operands = command.operands
-        if command.code == SET:
+        if command.kind == "Set":
             self.set(command)
-        elif command.code in (LOAD, STORE):
-            access = ACCESS_TABLE[self.module.accesses[self.position]]
+        elif command.kind in ("Load", "Store"):
+            value = Operand(True, command.writes) if command.kind == "Load" else operands[1]
             self.is_of(operands[0], I32)
-            self.is_of(
-                Operand(VARIABLE, command.variable) if command.code == LOAD else operands[1], access.kind
-            )
-        elif command.code == TEST:
+            self.is_of(value, ACCESS_TABLE[command.operator].kind)
+        elif command.kind == "Test":
             self.is_of(operands[0], I32)
-        elif command.code in (ARG, OUT):
-            self.are_one(self.program.writes(command), operands[0])
+        elif command.kind in ("Arg", "Out"):
+            self.are_one(command.writes, operands[0])
 
     def run(self) -> None:
         self.declare()
-        for self.position, command in enumerate(self.program.commands, 7):
-            self.command(command)
+        for self.position in range(TRAPS, len(self.image.commands)):
+            self.command(self.image.commands[self.position])
         for self.position, number, variable in self.constants:
             root = self.root(variable)
             if root not in self.known and number >> 32:
                 self.known[root] = I64
             if self.known.get(root) == I32:
-                self.is_of(Operand(CONSTANT, number), I32)
+                self.is_of(Operand(False, number), I32)
 
     def of(self, variable: int) -> int:
         """The type of a variable; one that only constants of 32 bits reach is an i32."""
         return self.known.get(self.root(variable), I32)
 
 
-def widths_of(module: Module) -> Widths:
-    """The types of all variables of a module."""
-    widths = Widths(module)
+def widths_of(image: Image) -> Widths:
+    """The types of all variables of an image."""
+    widths = Widths(image)
     widths.run()
     return widths

@@ -47,10 +47,10 @@ class Cause:
         return [origin.position for origin in self.origins if origin.position is not None]
 
     def columns(self) -> Tuple[int, int, int]:
-        """Conditions, addresses, others."""
-        conditions = self.counts.get(CONDITION, 0)
+        """Branches, addresses, others."""
+        branches = self.counts.get(CONDITION, 0)
         addresses = sum(n for kind, n in self.counts.items() if kind.startswith("address"))
-        return conditions, addresses, self.ends - conditions - addresses
+        return branches, addresses, self.ends - branches - addresses
 
 
 def told_by_callers(found: Findings, lines: Lines) -> List[Origin]:

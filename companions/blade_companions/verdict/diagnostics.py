@@ -8,7 +8,8 @@ from typing import Dict, Iterator, List, Optional, Sequence
 from .causes import Cause, Way, add_ends
 from ..c.dwarf import subprograms
 from .flow import CONDITION, DEMANDED, DIVISION, LOAD_ADDRESS, STORE_ADDRESS, STORED, End, Findings, Origin
-from .guesses import LEAK, Guess, Guesser, settle
+from .guesses import LEAK, UNKNOWN, Guess, Guesser, settle
+from .libraries import Owners
 from ..c.lines import NOWHERE, Line, Lines
 from ..c.paths import shown
 from ..formats.certificate import Protect
@@ -19,6 +20,7 @@ MOST_JUDGED = 40  # so many causes get a likely reason
 MANY, MOST_SOURCES = 3, 4  # with more places than that it is told where to begin: so many lines
 MOST_STEPS = 12  # of a way
 CALLED = "call by a secret"
+WARNING, ERROR = "warning", "error"
 
 
 @dataclass(frozen=True)
@@ -101,6 +103,7 @@ class Told:
     # by the positions of problems, what a run and a witness show, in place of what is likely
     observed: Dict[int, str] = field(default_factory=dict)
     witnessed: Optional[int] = None  # the position of the problem that a witness shows
+    level: str = WARNING  # what a violation is called
 
     def also(self, one: Problem) -> str:
         """What is shown of a problem, behind its text."""
@@ -235,6 +238,8 @@ def loaded_at(way: Way, lines: Lines) -> Optional[Step]:
 
 def advice(reason: Optional[Guess], way: Way, rule: Rule) -> Optional[Guess]:
     """The likely reason; of a leak, what helps there."""
+    if reason is not None and reason.reason == UNKNOWN.reason:
+        return reason._replace(remedy=f"{reason.remedy}; if it is secret this is a leak: {rule.help}")
     if reason is None or reason.reason != LEAK.reason:
         return reason
     if way.origin.position is None:
@@ -310,15 +315,28 @@ def problem_text(one: Problem) -> str:
                             else "") + (f", at {one.ends} places of this line" if one.ends > 1 else "")
 
 
-def as_text(told: Told, image: str, limit: int, lines: Lines) -> Iterator[str]:
-    """In the form of compilers: file:line:column: warning: .. [blade-..], with notes for the way."""
+def as_text(told: Told, image: str, limit: int, lines: Lines, everything: bool = True) -> Iterator[str]:
+    """In the form of compilers: file:line:column: error: .. [blade-..], with notes for the way. The user's
+    own sources come first; unless everything is asked for, a library is one line."""
+    own, libraries = Owners(lines.sources).parted(told.problems)
+    others = [one for library in libraries for one in library.problems]
+    yield from violations(told, own + others if everything else own, image, limit, lines)
+    for library in [] if everything else libraries:
+        yield f"{image}: note: {library.text()}"
+    hidden = set() if everything else {one.line.path for one in others}
+    if len(told.problems) > MANY or not own:
+        yield from beginnings(told, [one for one in told.sources if one.line.path not in hidden], image,
+                              lines)
+
+
+def violations(told: Told, problems: Sequence[Problem], image: str, limit: int, lines: Lines) -> Iterator[str]:
     origins = set()
-    for one in told.problems[:limit]:
+    for one in problems[:limit]:
         where = spelled(one.line, f"{image}: position {one.position} of {one.function}")
         origin = of_text(one, image)
         again = (origin, one.likely) in origins
         origins.add((origin, one.likely))
-        yield f"{where}: warning: {problem_text(one)}{', ' + origin if again else ''} [{one.rule.name}]"
+        yield f"{where}: {told.level}: {problem_text(one)}{', ' + origin if again else ''} [{one.rule.name}]"
         source = lines.source_as_is(one.line)
         if source.strip():
             yield f" {source}"
@@ -335,15 +353,19 @@ def as_text(told: Told, image: str, limit: int, lines: Lines) -> Iterator[str]:
                 f" [in {step.function}]" if step.function else "")
         if one.likely:
             yield f"{where}: note: {one.likely}"
-    if len(told.problems) > limit:
-        yield f"{image}: note: and {len(told.problems) - limit} more places (--limit)"
-    if len(told.problems) > MANY:
-        yield f"{image}: note: begin with what reaches most of the {len(told.found.refused)} refused ends:"
-        for source in told.sources[:MOST_SOURCES]:
-            where = spelled(source.line,
-                            f"{image}: position {source.position}" if source.position >= 0 else image)
-            yield f"{where}: note: {source.ends} come of {source.text}" + (
-                f", {source.likely}" if source.likely else "")
-            text = lines.source_as_is(source.line)
-            if text.strip():
-                yield f" {text}"
+    if len(problems) > limit:
+        yield f"{image}: note: and {len(problems) - limit} more places (--limit)"
+
+
+def beginnings(told: Told, sources: Sequence[Source], image: str, lines: Lines) -> Iterator[str]:
+    """Where to mend first."""
+    if sources:
+        yield f"{image}: note: begin with what causes most of the {len(told.found.refused)} violations:"
+    for source in sources[:MOST_SOURCES]:
+        where = spelled(source.line,
+                        f"{image}: position {source.position}" if source.position >= 0 else image)
+        yield f"{where}: note: {source.ends} come of {source.text}" + (
+            f", {source.likely}" if source.likely else "")
+        text = lines.source_as_is(source.line)
+        if text.strip():
+            yield f" {text}"

@@ -9,7 +9,7 @@ from typing import TYPE_CHECKING, Dict, Iterable, List, Optional, Sequence, Set,
 
 from .causes import Cause
 from ..witnesses.directives import last_of
-from .flow import End, Findings, find, is_bounds_test
+from .flow import DIVISION, LOAD_ADDRESS, STORE_ADDRESS, End, Findings, find, is_bounds_test, kind_of_test
 from .guesses import POINTER, SHARED, Guess
 from ..formats.image import Image
 from ..formats.operators import DIVISIONS
@@ -44,10 +44,10 @@ def kind_of(image: Image, position: int) -> str:
     """What an observer learns of a command, in the words of its end."""
     command = image.commands[position]
     if command.kind == "Test":
-        return "condition"
+        return kind_of_test(image.commands, position)
     if command.kind in ("Load", "Store"):
-        return f"address of a {command.kind.lower()}"
-    return "division" if command.kind == "Set" and command.operator in DIVISIONS else command.kind.lower()
+        return LOAD_ADDRESS if command.kind == "Load" else STORE_ADDRESS
+    return DIVISION if command.kind == "Set" and command.operator in DIVISIONS else command.kind.lower()
 
 
 def end_at(image: Image, position: int) -> int:
@@ -98,6 +98,7 @@ class Evidence:
     causes: List[Cause]
     meeting: Optional[Meeting] = None
     witness: Optional[Witness] = None
+    is_searched: bool = True  # whether a search compared any two runs
 
     def numbers(self, ends: Iterable[End], bits: int = -1) -> Tuple[int, int]:
         """Of some ends how many the run came to, and how many met there what may change, with a mark among
@@ -182,7 +183,7 @@ class Evidence:
         """How far the run came, and what it met."""
         refused, reached, met = self.tallied()
         part = "" if self.meeting.left else f" in its first {self.meeting.count:,} commands"
-        return (f"the run from this start reaches {reached} of {refused} refused ends{part}, and meets at "
+        return (f"the run from this start reaches {reached} of {refused} violations{part}, and meets at "
                 f"{met} of them what may change")
 
     def still_refused(self, loads: Sequence[int]) -> int:

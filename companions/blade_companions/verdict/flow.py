@@ -10,11 +10,12 @@ from ..formats.image import Command, Image
 from ..formats.operators import OUTSIDE
 
 CONDITION, LOAD_ADDRESS, STORE_ADDRESS, DIVISION, STORED, DEMANDED = KINDS = (
-    "condition", "address of a load", "address of a store", "division", "store to a public memory",
-    "demanded public")
+    "branch", "address of a load", "address of a store", "division", "store to a public memory",
+    "public demand")
 PLURALS = dict(zip(KINDS, (
-    "conditions", "addresses of loads", "addresses of stores", "divisions", "stores to public memories",
-    "demanded public")))
+    "branches", "addresses of loads", "addresses of stores", "divisions", "stores to public memories",
+    "public demands")))
+OBSERVED = (CONDITION, LOAD_ADDRESS, STORE_ADDRESS, DIVISION)  # what an observer of a run sees
 CHUNK = 8192  # so many groups are followed at a time
 
 
@@ -69,10 +70,17 @@ def is_bounds_test(commands: Sequence[Command], position: int) -> bool:
     return commands[position - 1].kind == "Set" and commands[position - 1].operator == OUTSIDE
 
 
+def kind_of_test(commands: Sequence[Command], position: int) -> str:
+    """The kind of a Test: C has no branch where an access tests its bounds, but an address."""
+    if not is_bounds_test(commands, position):
+        return CONDITION
+    return LOAD_ADDRESS if commands[position + 1].kind == "Load" else STORE_ADDRESS
+
+
 def ends_of_command(image: Image, position: int, command: Command) -> List[End]:
     """The ends at a position, but for what is demanded public."""
     if command.kind == "Test":
-        return [End(position, CONDITION, x) for x in command.sinks]
+        return [End(position, kind_of_test(image.commands, position), x) for x in command.sinks]
     if command.kind == "Load":
         return [End(position, LOAD_ADDRESS, x) for x in command.sinks]
     if command.kind == "Store":
@@ -166,7 +174,7 @@ def is_refused(image: Image, end: End, secret: Dict) -> bool:
         command = image.commands[end.position]
         loads = command.kind == "Load" and image.memories[command.memory].is_secret
         return loads or any(x in secret for x in command.reads)
-    if end.kind == CONDITION and is_bounds_test(image.commands, end.position):
+    if image.commands[end.position].kind == "Test" and is_bounds_test(image.commands, end.position):
         return not any(x in secret for x in image.commands[end.position + 1].sinks)
     return True
 

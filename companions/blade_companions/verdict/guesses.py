@@ -21,7 +21,8 @@ class Guess(NamedTuple):
     rests: str
 
     def __str__(self) -> str:
-        return f"likely {self.reason}, since {self.rests}: {self.remedy}"
+        likely = "" if self.reason == UNKNOWN.reason else "likely "
+        return f"{likely}{self.reason}, since {self.rests}: {self.remedy}"
 
 
 LEDGER = Guess("a public number in a secret memory",
@@ -33,6 +34,9 @@ SHARED = Guess("locals that clang shares between C variables", "wasm-opt -g --un
                "a step on the way reads what was written anew")
 LEAK = Guess("a look-up or a branch by a secret",
              "if what is loaded is secret this is a leak: read all entries, or compute without a branch", "")
+UNKNOWN = Guess("unknown whether it is secret",
+                "one run decides (--start FILE); if it is public, give it as a parameter, or keep it in the "
+                "ledger", "")
 FRAME = Guess("a variable that clang keeps in memory", "compile with -O1 or more",
               "the function keeps all its parameters in its frame")
 SPILL = Guess("a secret that is stored to a public memory",
@@ -50,8 +54,9 @@ BYTES = frozenset([0x2C, 0x2D, 0x30, 0x31])  # loads of a byte
 WALKED = 100_000  # the most commands that are looked at for one step of a way
 STEPS = 30  # the most steps of a way that are looked at
 BASES = 64  # the most variables that are looked at for an address
-# C's text where an element with a variable index is loaded
+# C's text where an element with a variable index is loaded, and where bits are cut out of one
 ELEMENT = re.compile(r"(?:\w+(?:->|\.))*\w+\[[^]]*[A-Za-z_]")
+CUT_OUT = re.compile(r"(?:\w+(?:->|\.))*\w+\[[^]]*\]\s*(?:&(?!&)|>>)")
 LOADS = 3  # so many loads of a cause are looked at
 
 
@@ -80,7 +85,10 @@ class Guesser:
         if self.lines.instruction(shortest.end.position) == "call_indirect":
             return POINTER
         why = self.why_secret(cause, shortest)
-        return LEAK._replace(rests=why) if why else LEDGER
+        if why:
+            return LEAK._replace(rests=why)
+        why = self.why_unknown(cause)
+        return UNKNOWN._replace(rests=why) if why else LEDGER
 
     def why_secret(self, cause: "Cause", way: "Way") -> str:
         """Why a cause is more like key bytes, or numbers made of them, than like a count or a pointer; empty
@@ -91,15 +99,19 @@ class Guesser:
         operators = {command.operator for command in commands if command.kind == "Set"}
         if operators & MIXING:
             return "it is mixed by xor or rotations on the way"
-        if any(command.kind == "Load" and command.operator in BYTES for command in commands):
-            return "a byte is loaded"
-        if any(self.is_walked(load) for load in cause.loads[:LOADS]):
-            return "a loop walks over where it is loaded from"
+        conditions, addresses, _ = cause.columns()
+        if CUT_OUT.match(text_at(cause, self.lines)) or operators & CUTTING and 4 * conditions < addresses:
+            return "bits are cut out of it for addresses"
+        is_byte = any(command.kind == "Load" and command.operator in BYTES for command in commands)
+        return "a byte is loaded" if is_byte and not self.why_unknown(cause) else ""
+
+    def why_unknown(self, cause: "Cause") -> str:
+        """Why a cause may as well be a count or a pointer as a part of a key: arrays hold both. Empty where
+        it is no element."""
         if ELEMENT.match(text_at(cause, self.lines)):
             return "it is an element of an array"
-        conditions, addresses, _ = cause.columns()
-        if operators & CUTTING and 4 * conditions < addresses:
-            return "bits are cut out of it for addresses"
+        if any(self.is_walked(load) for load in cause.loads[:LOADS]):
+            return "a loop walks over where it is loaded from"
         return ""
 
     def address_of(self, load: int) -> Optional[int]:
@@ -238,17 +250,18 @@ def walk(found: Findings, variable: int, start: int, goal: int) -> bool:
 def settle(causes: Sequence["Cause"], lines: Lines) -> None:
     """A number that is read at several places gets one answer: that of the places that look secret, since
     moving a secret to the ledger is worse than keeping a public number."""
+    order = [LEDGER.reason, UNKNOWN.reason, LEAK.reason]
     named: Dict[str, List["Cause"]] = defaultdict(list)
     for cause in causes:
         name = name_of(cause, lines)
-        if name and cause.likely is not None and cause.likely[0] in (LEDGER[0], LEAK[0]):
+        if name and cause.likely is not None and cause.likely.reason in order:
             named[name].append(cause)
     for name, members in named.items():
-        secret = next((one for one in members if one.likely[0] == LEAK[0]), None)
-        for cause in members if secret else []:
-            if cause.likely[0] == LEDGER[0]:
-                cause.likely = LEAK._replace(rests=f"{name} is read at {secret.place} too, and there "
-                                             f"{secret.likely.rests}")
+        most = max(members, key=lambda one: order.index(one.likely.reason))
+        for cause in members:
+            if cause.likely.reason != most.likely.reason:
+                cause.likely = most.likely._replace(rests=f"{name} is read at {most.place} too, and there "
+                                                    f"{most.likely.rests}")
 
 
 def text_at(cause: "Cause", lines: Lines, behind: bool = True) -> str:

@@ -8,21 +8,11 @@ import os
 import re
 from typing import Optional, Sequence, Tuple
 
-from .diagnostics import RULES, Problem, Rule, Told, problem_text
+from .diagnostics import ERROR, RULES, Problem, Rule, Told, problem_text
 from ..c.lines import Line, Lines
-from ..formats.reading import read_file
-from ..c.tools import HERE
 
 PROTECT = "blade-protect"
 SCHEMA = "https://json.schemastore.org/sarif-2.1.0.json"
-
-
-def version() -> str:
-    """That of the program, which stands above this folder in a clone and in a release."""
-    try:
-        return read_file(os.path.join(os.path.dirname(HERE), "VERSION")).decode().strip()
-    except OSError:
-        return "0"
 
 
 def line_object(line: Line) -> Optional[dict]:
@@ -95,7 +85,7 @@ def fingerprint(one: Problem, source: str) -> str:
     return hashlib.sha256("\0".join(parts).encode()).hexdigest()[:32]
 
 
-def rule_object(rule: Rule) -> dict:
+def rule_object(rule: Rule, level: str) -> dict:
     return {
         "id": rule.name, "name": rule.title,
         "shortDescription": {"text": rule.text[0].upper() + rule.text[1:]},
@@ -103,7 +93,7 @@ def rule_object(rule: Rule) -> dict:
                             "addresses, divisions and branches learns of it."},
         "help": {"text": "If what is loaded is public, make it a parameter or keep it in the ledger. If it "
                  f"is secret: {rule.help}."},
-        "defaultConfiguration": {"level": "warning"},
+        "defaultConfiguration": {"level": level},
         "properties": {"tags": ["security", "constant-time"], "security-severity": "6.0"},
     }
 
@@ -129,8 +119,8 @@ def as_sarif(told: Told, image: str, modules: Sequence[str], lines: Lines, root:
                 for step in one.steps]
         text = problem_text(one) + (f". It is {one.likely}" if one.likely else "")
         results.append({
-            "ruleId": one.rule.name, "ruleIndex": rules.index(one.rule), "level": "error"
-            if one.position == told.witnessed else "warning", "message": {"text": text + told.also(one)},
+            "ruleId": one.rule.name, "ruleIndex": rules.index(one.rule), "level": ERROR
+            if one.position == told.witnessed else told.level, "message": {"text": text + told.also(one)},
             "locations": [location(one.line, one.function, "", root,
                                    *module_place(lines, one.position, image))],
             "codeFlows": [{"threadFlows": [{"locations": flow}]}],
@@ -146,7 +136,7 @@ def as_sarif(told: Told, image: str, modules: Sequence[str], lines: Lines, root:
         })
     run = {
         "tool": {"driver": {"name": "blade", "version": version,
-                            "rules": [rule_object(rule) for rule in rules] + [PROTECT_RULE]}},
+                            "rules": [rule_object(rule, told.level) for rule in rules] + [PROTECT_RULE]}},
         "originalUriBaseIds": {"SRCROOT": {"uri": "file://" + quoted(root.rstrip("/")) + "/"}},
         "columnKind": "unicodeCodePoints", "invocations": [{"executionSuccessful": True}], "results": results,
         "properties": {"constant-time": told.found.is_constant_time, "ends": len(told.found.ends),
@@ -155,13 +145,13 @@ def as_sarif(told: Told, image: str, modules: Sequence[str], lines: Lines, root:
     return json.dumps({"$schema": SCHEMA, "version": "2.1.0", "runs": [run]}, indent=1) + "\n"
 
 
-ERROR = re.compile(r"(.+?):(\d+)(?::(\d+))?: error: (.*) \[(blade-[a-z-]+)\]$")
+ERROR_LINE = re.compile(r"(.+?):(\d+)(?::(\d+))?: error: (.*) \[(blade-[a-z-]+)\]$")
 
 
 def errors_as_sarif(lines: Sequence[str], root: str, version: str) -> str:
     """The log of a run that came to no verdict: its errors in the form of compilers, as far as they tell a
     file and a rule."""
-    found = [match.groups() for match in map(ERROR.match, lines) if match]
+    found = [match.groups() for match in map(ERROR_LINE.match, lines) if match]
     names = list(dict.fromkeys(rule for *_, rule in found))
     results = [{
         "ruleId": rule, "ruleIndex": names.index(rule), "level": "error", "message": {"text": message},

@@ -6,12 +6,14 @@ from typing import Dict, Iterator, List, Optional, Sequence
 
 from .causes import Cause, Way
 from .evidence import Evidence, kind_of
-from .flow import PLURALS, End, Findings
+from .flow import OBSERVED, PLURALS, End, Findings, is_bounds_test
 from ..c.lines import Lines
 from ..formats.certificate import Protect, function_name, totals
 
 WIDE = 90  # so much of a line of C is shown
 STEPS = 6  # so many lines of a way
+# what an observer of a run sees
+ALL, ONE = "branches, addresses and divisions", "branch, address or division"
 
 
 def counted(number: int, kind: str) -> str:
@@ -39,12 +41,14 @@ def declared_text(found: Findings) -> str:
 
 def verdict_text(found: Findings, public: Sequence[int], evidence: Optional[Evidence] = None) -> str:
     supposed = f" (as if what is loaded at {', '.join(map(str, public))} were public)" if public else ""
+    observed = [end for end in found.ends if end.kind in OBSERVED
+                and not is_bounds_test(found.image.commands, end.position)]
+    total = f"{len(observed)} {ALL if len(observed) != 1 else ONE}"
     if found.is_constant_time:
-        return f"constant-time yes{supposed}: {counted(len(found.ends), 'end')}, none of them refused"
+        return f"constant-time yes{supposed}: none of {total} depends on a secret"
     kinds = Counter(end.kind for end in found.refused)
     witnessed = ", leak witnessed" if evidence and evidence.witness else ""
-    return (f"constant-time no{witnessed}{supposed}: {len(found.refused)} of {len(found.ends)} ends are "
-            f"refused: {kinds_text(kinds)}")
+    return f"constant-time no{witnessed}{supposed}: a secret reaches {kinds_text(kinds)} ({total} in all)"
 
 
 def place_text(lines: Lines, position: int) -> str:
@@ -68,7 +72,7 @@ def evidence_text(evidence: Evidence, lines: Lines) -> Iterator[str]:
 
 
 def table(causes: Sequence[Cause]) -> Iterator[str]:
-    yield "      ends that it reaches (conditions, addresses, others): the line that loads it"
+    yield "      violations that it causes (branches, addresses, others): the line that loads it"
     for number, cause in enumerate(causes, 1):
         place = (cause.place.split(" position ")[0].rsplit(" ", 1)[0] if cause.source and ":" in cause.place
                  else cause.place or cause.declared)

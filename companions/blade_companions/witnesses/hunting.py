@@ -4,19 +4,19 @@ from __future__ import annotations
 import os
 from typing import TYPE_CHECKING, Iterator, List, Sequence, Tuple
 
-from ..c.arguments import USAGE, Stop
+from ..c.arguments import Stop
 from ..verdict.diagnostics import Told
 from ..verdict.evidence import RUN, UNPROVED, Evidence, evidence_of_run, read_witness, secret_of
 from ..c.lines import Lines
-from .telling import places
+from .telling import UNSEARCHED, places
 from ..c.tools import HERE
+from ..statuses import GAVE_UP, NO, USAGE, YES
 from ..formats.module import FUNCTION, read_module
 
 if TYPE_CHECKING:
     from ..cc import Driver
 
 SECONDS = "10"  # of the search
-FOUND, NONE = 1, (0, 4)  # statuses of blade-witness
 WRITTEN = ("trace", "a.start", "b.start", "again")
 
 
@@ -38,16 +38,18 @@ def after_no(driver: "Driver", told: Told, lines: Lines, modules: Sequence[str],
     for path in (f"{prefix}.{end}" for end in WRITTEN):
         if os.path.exists(path):
             os.remove(path)
-    words = [os.path.join(HERE, "blade-witness"), f"{made}.img", *entry, *modules, "--seconds", SECONDS,
-             "--out", prefix, "--blade", driver.program]
+    kept = [word for one in driver.asked.keep for word in ("--keep", one)]
+    words = [os.path.join(HERE, "blade-witness"), f"{made}.img", *entry, *modules, *kept, "--seconds",
+             SECONDS, "--out", prefix, "--blade", driver.program]
     done = driver.runner.run(words)
-    if done.status not in (FOUND, *NONE):
+    if done.status not in (YES, NO, GAVE_UP) or not done.out:
         said = done.errors.strip() or f"blade-witness ends with status {done.status}"
         raise Stop(USAGE, f"blade-cc: error: --start {driver.asked.start}: {said}")
     image = told.found.image
-    evidence = evidence_of_run(told.found, (), secret_of(image, *entry, (), ()), entry[0], RUN)
-    explained = ["--start", *entry]
-    if done.status == FOUND:
+    evidence = evidence_of_run(told.found, (), secret_of(image, *entry, (), driver.asked.keep), entry[0], RUN)
+    explained = ["--start", *entry, *kept]
+    evidence.is_searched = done.status != GAVE_UP
+    if os.path.exists(f"{prefix}.trace"):
         evidence.witness = read_witness(image, f"{made}.img", prefix, driver.program)
         explained += ["--witness", prefix, "--blade", driver.program]
     evidence.mark_problems(told, lines)
@@ -60,7 +62,8 @@ def summary(evidence: Evidence, lines: Lines) -> Iterator[str]:
         yield (f"leak witnessed at {places([evidence.witness.position], lines)}; again: "
                f"{evidence.witness.words}")
         return
-    yield f"not witnessed in {SECONDS} seconds; {evidence.run_text()}"
+    said = "not witnessed" if evidence.is_searched else UNSEARCHED
+    yield f"{said} in {SECONDS} seconds; {evidence.run_text()}"
     clean, missed = evidence.never_loaded(), evidence.not_reached()
     if clean:
         yield f"looks public, {UNPROVED}: {places(clean, lines)}"

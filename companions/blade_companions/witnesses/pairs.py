@@ -8,7 +8,7 @@ from typing import Dict, Iterator, List, NamedTuple, Optional, Sequence, Tuple
 
 from ..formats.image import Image
 from ..formats.reading import Bad
-from ..formats.running import PAGE, Start, fits
+from ..formats.running import PAGE, Start, fits, start_text
 
 WIDE = 0x7E  # i64
 MOST_BYTES, MOST_RANGES = 262_144, 4_096  # that change
@@ -114,7 +114,7 @@ class Secret:
         memories = {one.memory for one in ranges if one.memory is not None}
         spaces = {memory: contents(image, memory, start) for memory in memories}
         inside = sorted(one for one in ranges if one.memory is not None)
-        self.kept = [f"memory {number} {offset} {data.hex()}" for number, offset, data in start.contents
+        self.kept = [(number, offset, data) for number, offset, data in start.contents
                      if not is_covered(inside, number, offset, len(data))]
         self.first = b"".join(
             start.arguments[one.offset].to_bytes(8, "little")[: one.size] if one.memory is None
@@ -129,13 +129,13 @@ class Secret:
 
     def text(self, secret: bytes, arguments: Optional[Sequence[int]] = None) -> str:
         """The start file with these bytes."""
-        values, lines = list(arguments or self.start.arguments), []
+        values, changed = list(arguments or self.start.arguments), []
         for one, _, data in self.pieces(secret):
             if one.memory is None:
                 values[one.offset] = int.from_bytes(data, "little")
             else:
-                lines.append(f"memory {one.memory} {one.offset} {data.hex()}")
-        return "\n".join([f"arg {value}" for value in values] + self.kept + lines) + "\n"
+                changed.append((one.memory, one.offset, data))
+        return start_text(values, self.kept + changed)
 
     def name(self, place: int) -> str:
         """What a byte of the string is."""

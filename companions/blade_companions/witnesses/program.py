@@ -9,7 +9,7 @@ import time
 from dataclasses import dataclass
 from typing import Dict, List, NamedTuple, Optional, Sequence, Tuple
 
-from ..formats.reading import Bad
+from ..formats.reading import Bad, GaveUp
 from ..programs import ready_program
 
 ALIKE, DIFFER, TRAPPED, SPENT, STUCK = 0, 1, 16, 17, 18
@@ -24,11 +24,11 @@ def program_of(asked: Optional[str]) -> str:
         if one and shutil.which(one):
             return os.path.abspath(one) if os.path.dirname(one) else one
         if one and one == asked:
-            raise Bad(f"{one} is no program")
+            raise GaveUp(f"{one} is no program")
     found = ready_program() or ("blade" if shutil.which("blade") else None)
     if found is None:
-        raise Bad("there is no blade that is built: run ./blade once, or give one by "
-                  "--blade PROGRAM or BLADE")
+        raise GaveUp("there is no blade that is built: run ./blade once, or give one by "
+                     "--blade PROGRAM or BLADE")
     return found
 
 

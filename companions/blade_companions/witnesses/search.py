@@ -47,6 +47,11 @@ class Done:
         if attempt.wrong is None:
             self.firsts.add(attempt.first)
 
+    @property
+    def is_begun(self) -> bool:
+        """Whether any two runs were compared."""
+        return self.pairs + self.runs > 0
+
     def text(self) -> str:
         wrong = f" with {self.paths} wrong paths" if self.paths else ""
         return f"{self.pairs} pairs of starts on {self.traces} traces{wrong}, {self.runs} pairs of whole runs"

@@ -17,6 +17,7 @@ from ..verdict.text import place_text
 
 PLACES = 6  # so many lines of C are named in a row
 BYTES = 4  # so many changed bytes are told one by one
+UNSEARCHED = "gave up before anything was searched"
 
 
 def where(lines: Lines, position: int) -> str:
@@ -58,11 +59,12 @@ def not_refused(findings: Findings, found: Found, position: int) -> Iterator[str
     """Where the labels say nothing of this end."""
     if end_at(findings.image, position) in {end.position for end in findings.refused}:
         return
+    word = kind_of(findings.image, position).split(" ")[0]
     if found.plain:
-        yield ("  the labels don't refuse this end, but a store to a public memory before it: what is loaded "
-               "there again counts as public")
+        yield (f"  the labels don't refuse this {word}, but a store to a public memory before it: what is "
+               "loaded there again counts as public")
     else:
-        yield ("  the labels don't refuse this end: they speak of no wrong guess, of which "
+        yield (f"  the labels don't refuse this {word}: they speak of no wrong guess, of which "
                "protects keep what is loaded")
 
 
@@ -107,13 +109,13 @@ def places(positions: List[int], lines: Lines) -> str:
 def of_the_run(evidence: Evidence, lines: Lines) -> Iterator[str]:
     """What START's own run says of the ends that the labels refuse."""
     if not evidence.found.refused:
-        yield "  the labels refuse no end"
+        yield "  the labels refuse no branch, address or division"
         return
     yield f"  {evidence.run_text()}"
     clean = evidence.never_loaded()
     if clean:
         left = evidence.still_refused(clean)
-        said = f"{left} ends would still be refused" if left else "none would be refused"
+        said = f"{left} violations would be left" if left else "no violation would be left"
         yield (f"  looks public, {UNPROVED}: these lines never loaded what was changed; were it public, "
                f"{said}: {places(clean, lines)}")
         yield f"    (blade-explain --public {','.join(map(str, clean))})"
@@ -125,7 +127,10 @@ def of_the_run(evidence: Evidence, lines: Lines) -> Iterator[str]:
 def nothing(done: Done, evidence: Evidence, seconds: float, lines: Lines) -> Iterator[str]:
     """Nothing found: how much was tried, and what the run says."""
     ended = f", stopped after {seconds:g} seconds" if done.stopped else ""
-    yield f"nothing found, which isn't to say that there is nothing{ended}: {done.text()}"
+    if done.is_begun:
+        yield f"nothing found, which isn't to say that there is nothing{ended}: {done.text()}"
+    else:
+        yield f"{UNSEARCHED}{ended}: no two runs were compared; give it more --seconds, or a shorter run"
     if done.cut:
         yield f"  the search isn't complete: traces end at {LINES:,} directives, before the run does"
     yield from of_the_run(evidence, lines)

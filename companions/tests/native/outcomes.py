@@ -16,8 +16,9 @@ sys.path.insert(0, COMPANIONS)
 from blade_companions.native.building import build  # noqa: E402
 from blade_companions.native.header import Export  # noqa: E402
 from blade_companions.native.names import export_names  # noqa: E402
-from blade_companions.native.reading import I32, Module, module_of  # noqa: E402
+from blade_companions.native.reading import I32, image_of  # noqa: E402
 from blade_companions.native.translation import translate  # noqa: E402
+from blade_companions.formats.image import Image  # noqa: E402
 from blade_companions.formats.running import Start, read_start  # noqa: E402
 from blade_companions.programs import TOP, ready_program  # noqa: E402
 
@@ -72,11 +73,11 @@ class Native:
         compiler: str = "clang",
         level: str = "-O2",
         more: Optional[List[str]] = None,
-        module: Optional[Module] = None,
+        image: Optional[Image] = None,
     ) -> None:
-        self.module = module or module_of(data)
+        self.image = image or image_of(data)
         self.name = name
-        translation = translate(self.module, name)
+        translation = translate(self.image, name)
         for ending, text in ((".c", translation.source), (".h", translation.header)):
             with open(f"{folder}/{name}{ending}", "w", encoding="ascii") as file:
                 file.write(text)
@@ -84,7 +85,7 @@ class Native:
         build(compiler, f"{folder}/{name}.c", self.path, level, ["-shared", "-fPIC", *(more or [])])
         self.library = ctypes.CDLL(self.path)
         self.exports: Dict[bytes, Export] = {}
-        for (origin, _), one in zip(self.module.program.exports, export_names(self.module.program.exports)):
+        for (origin, _), one in zip(self.image.names, export_names(self.image.names)):
             self.exports[origin] = Export(*one)
         self.function("new").restype = ctypes.c_void_p
         self.function("end_text").restype = ctypes.c_char_p
@@ -116,10 +117,9 @@ class Native:
     def call(self, instance: int, export: bytes, arguments: List[int]) -> Tuple[int, List[str]]:
         """How a call ends, and its results."""
         one = self.exports[export]
-        results = [kind_of(code) for code in self.module.result_types[one.number]]
-        given = [
-            kind_of(code)[1](value) for code, value in zip(self.module.parameter_types[one.number], arguments)
-        ]
+        function = self.image.functions[one.number]
+        results = [kind_of(code) for code in function.result_types]
+        given = [kind_of(code)[1](value) for code, value in zip(function.types, arguments)]
         places = [holder(0) for _, holder in results]
         end = on_large_stack(
             lambda: self.function(one.word)(ctypes.c_void_p(instance), *given, *map(ctypes.byref, places))
@@ -132,7 +132,7 @@ class Native:
         assert instance, "no instance"
         for number, offset, contents in start.contents:
             assert self.write(instance, number, offset, contents)
-        memories = range(len(self.module.program.memories))
+        memories = range(len(self.image.memories))
         before = [self.memory(instance, number) for number in memories]
         end, results = self.call(instance, export, start.arguments)
         text = "returned" if end == 0 else "trapped " + self.function("end_text")(end).decode()

@@ -123,7 +123,7 @@ class Writer:
     def access(self) -> None:
         """A Load or Store at a small address, or at any, which traps."""
         code, name = self.random.choice(list(ACCESS_NAMES.items()))
-        access, offset = ACCESS_TABLE[name], self.random.choice((0, 1, 8, 65000))
+        access, offset = ACCESS_TABLE[code], self.random.choice((0, 1, 8, 65000))
         address = self.random.choice(self.local[I32])
         if self.random.random() < 0.95:
             self.commands.append((SET, 0, 0x71, address, address, K(0x7FF)))

@@ -9,7 +9,7 @@ import tempfile
 import unittest
 from typing import List, Tuple
 
-from outcomes import TOP, blade, module_of
+from outcomes import TOP, blade, image_of
 from images import ARG, CALL, I32, LOAD, OUT, RET, SET, TEST, Function, K, bounded, image
 from test_object import looked_up
 from blade_companions.native.checking import check_object
@@ -179,7 +179,7 @@ class Command(unittest.TestCase):
             self.assertIn(b"\x0f\xae\xe8", data)
             with open(other, "wb") as file:
                 file.write(data.replace(b"\x0f\xae\xe8", b"\x0f\x1f\x00"))
-        findings = check_object(module_of(looked_up()), other, "tried").findings
+        findings = check_object(image_of(looked_up()), other, "tried").findings
         self.assertTrue(any(why in one for one in findings), findings)
 
     # ---- C's stack
@@ -251,7 +251,7 @@ class Command(unittest.TestCase):
         status, printed = self.call(self.hardened("lookup"), "--test", f"lookup={start}")
         self.assertEqual((status, "depends on a secret" in printed), (1, True), printed)
         status, printed = self.call(self.path("tried.img", looked_up()), "--test", start)
-        self.assertEqual((status, "nothing secret" in printed), (3, True), printed)
+        self.assertEqual((status, "nothing secret" in printed), (4, True), printed)
 
     def test_memcheck_isn_t_there(self) -> None:
         """A test that can't run isn't one that passed."""
@@ -261,7 +261,7 @@ class Command(unittest.TestCase):
             status, printed = self.call(found, "--test", self.path("a.start", b"arg 3\n"))
         finally:
             os.environ["PATH"] = path
-        self.assertEqual((status, "valgrind isn't installed" in printed), (3, True), printed)
+        self.assertEqual((status, "valgrind isn't installed" in printed), (4, True), printed)
 
 
 if __name__ == "__main__":

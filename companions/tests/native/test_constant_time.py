@@ -7,7 +7,7 @@ import unittest
 from concurrent.futures import ThreadPoolExecutor
 from typing import List, Sequence, Tuple
 
-from outcomes import TOP, Start, blade, module_of
+from outcomes import TOP, Start, blade, image_of
 from blade_companions.native.memchecking import TOLD, Result, export_named, memcheck
 from built import CASES, routine
 
@@ -24,8 +24,8 @@ def memchecked(
     result: Result = Result(),
 ) -> Tuple[int, str]:
     """Memcheck's status, and the bytes that the program printed."""
-    module = module_of(data)
-    done = memcheck(module, export_named(module, export), start, compiler, level, more, result)
+    image = image_of(data)
+    done = memcheck(image, export_named(image, export), start, compiler, level, more, result)
     return done.returncode, "".join(done.stdout.splitlines()[1:])
 
 

@@ -2,7 +2,7 @@
 import unittest
 from typing import Any
 
-from outcomes import module_of, translate
+from outcomes import image_of, translate
 from images import ARG, CALL, I32, I64, JUMP, LOAD, MOVE, OUT, RET, SET, TEST, Function, K, image
 from blade_companions.formats.reading import Bad
 
@@ -12,7 +12,7 @@ ADD32, ADD64 = 0x6A, 0x7C
 def refusal(*functions: Function, **more: Any) -> str:
     """Why an image is refused; an empty text if it isn't."""
     try:
-        translate(module_of(image(functions, **more)), "tried")
+        translate(image_of(image(functions, **more)), "tried")
     except Bad as bad:
         return str(bad)
     return ""
@@ -118,7 +118,7 @@ class Rules(unittest.TestCase):
 
     def test_no_image(self) -> None:
         with self.assertRaises(Bad):
-            module_of(b"BLIM\1")
+            image_of(b"BLIM\1")
 
 
 if __name__ == "__main__":

@@ -5,7 +5,7 @@ import tempfile
 import unittest
 from typing import Any, Callable, List
 
-from outcomes import module_of, translate
+from outcomes import image_of, translate
 from images import I32, JUMP, LOAD, MOVE, OUT, RET, SELECT, SET, TEST, Function, K, bounded, image
 from blade_companions.native.building import build
 from blade_companions.native.checking import Checked, check_object
@@ -46,14 +46,14 @@ class Objects(unittest.TestCase):
         level: str = "-O2",
         data: bytes = looked_up(),
     ) -> Checked:
-        module = module_of(data)
-        translation = translate(module, "tried")
+        image_ = image_of(data)
+        translation = translate(image_, "tried")
         with tempfile.TemporaryDirectory() as folder:
             for ending, text in ((".c", edit(translation.source)), (".h", translation.header)):
                 with open(f"{folder}/tried{ending}", "w", encoding="ascii") as file:
                     file.write(text)
             build(compiler, f"{folder}/tried.c", f"{folder}/tried.o", level, ["-c", *more])
-            return check_object(module, f"{folder}/tried.o", "tried")
+            return check_object(image_, f"{folder}/tried.o", "tried")
 
     def found(self, pattern: str, **more: Any) -> None:
         """Each compiler's object has a finding of this kind."""
@@ -132,7 +132,7 @@ class Objects(unittest.TestCase):
                 file.write(contents)
                 file.flush()
                 with self.assertRaisesRegex(Bad, why):
-                    check_object(module_of(looked_up()), file.name, "tried")
+                    check_object(image_of(looked_up()), file.name, "tried")
 
     def test_cases_stay_branches(self) -> None:
         for compiler in COMPILERS:

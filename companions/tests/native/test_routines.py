@@ -35,7 +35,7 @@ class Routines(unittest.TestCase):
                 with self.subTest(source=source, compiler=compiler), tempfile.TemporaryDirectory() as folder:
                     native = Native(one.data, folder, "tried", compiler)
                     build(compiler, f"{folder}/tried.c", f"{folder}/tried.o")
-                    self.assertEqual(check_object(native.module, f"{folder}/tried.o", "tried").findings, [])
+                    self.assertEqual(check_object(native.image, f"{folder}/tried.o", "tried").findings, [])
 
 
 if __name__ == "__main__":

@@ -7,7 +7,7 @@ import tempfile
 import unittest
 from typing import Any, List, Tuple
 
-from outcomes import Native, blade, module_of, read_start, translate
+from outcomes import Native, blade, image_of, read_start, translate
 from images import (
     ARG,
     CALL,
@@ -27,6 +27,7 @@ from images import (
     image,
 )
 from blade_companions.native.emission import counts_depth
+from blade_companions.native.reading import calls
 from blade_companions.native.stack import SYSTEM, frames_in, most_bytes, most_of_functions
 from blade_companions.formats.reading import Bad
 
@@ -144,7 +145,7 @@ class Runs(unittest.TestCase):
         """A function that calls itself as often as its argument says: at most 1,024 calls are open."""
         commands = [(TEST, 0, 8, 12), (SET, 0, SUB, 1, 0, K(1)), (ARG, 0, 0, 0, 1), (CALL, 0), (RET,), (RET,)]
         native = self.native(image([Function([I32], [], 2, commands)]))
-        self.assertTrue(counts_depth(native.module.calls()))
+        self.assertTrue(counts_depth(calls(native.image)))
         self.assertEqual(self.same(native, "t/f0", "arg 1023\n"), "returned\n")
         self.assertEqual(self.same(native, "t/f0", "arg 1024\n"), "trapped call stack exhausted\n")
 
@@ -156,9 +157,9 @@ class Runs(unittest.TestCase):
         )
 
     def test_depth_without_a_round(self) -> None:
-        self.assertFalse(counts_depth(module_of(self.chain(1024)).calls()))
+        self.assertFalse(counts_depth(calls(image_of(self.chain(1024)))))
         native = self.native(self.chain(1025))
-        self.assertTrue(counts_depth(native.module.calls()))
+        self.assertTrue(counts_depth(calls(native.image)))
         self.assertEqual(self.same(native, "t/f1023", ""), "returned\n")
         self.assertEqual(self.same(native, "t/f1024", ""), "trapped call stack exhausted\n")
 
@@ -252,7 +253,7 @@ class Runs(unittest.TestCase):
 
     def test_cpp_takes_the_header(self) -> None:
         translation = translate(
-            module_of(image([Function([I32], [I32], 3, [(SET, 0, MOVE, 2, 0), (OUT, 0, 0, 2), (RET,)])])),
+            image_of(image([Function([I32], [I32], 3, [(SET, 0, MOVE, 2, 0), (OUT, 0, 0, 2), (RET,)])])),
             "tried",
         )
         with open(f"{self.folder}/tried.h", "w", encoding="ascii") as file:
@@ -276,9 +277,10 @@ class Runs(unittest.TestCase):
         )
 
     def test_other_targets_compile(self) -> None:
-        """AArch64's barriers are only assembled here; a target without a known barrier is refused."""
+        """AArch64's barriers are written (test_aarch64 runs them); a target without a known barrier is
+        refused."""
         commands = [(SET, 8, ADD, 2, 0, 0), (OUT, 0, 0, 2), (RET,)]
-        translation = translate(module_of(image([Function([I32], [I32], 3, commands)])), "tried")
+        translation = translate(image_of(image([Function([I32], [I32], 3, commands)])), "tried")
         for ending, text in ((".c", translation.source), (".h", translation.header)):
             with open(f"{self.folder}/tried{ending}", "w", encoding="ascii") as file:
                 file.write(text)

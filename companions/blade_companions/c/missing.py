@@ -1,0 +1,154 @@
+"""What to do about headers that clang doesn't find and names that the linker doesn't find.
+Licence: public domain (CC0)."""
+from __future__ import annotations
+
+import os
+import re
+from typing import Dict, Iterator, List, Mapping, NamedTuple, Sequence
+
+from ..formats.module import FUNCTION, Module
+from ..printing import called
+from .callers import called_in
+
+# The headers that wasi-libc has, but for those of networks and devices.
+STANDARD = frozenset(
+    "alloca.h assert.h byteswap.h complex.h ctype.h dirent.h endian.h err.h errno.h fcntl.h features.h "
+    "fenv.h float.h fnmatch.h getopt.h glob.h iconv.h inttypes.h iso646.h langinfo.h libgen.h limits.h "
+    "locale.h malloc.h math.h memory.h poll.h regex.h sched.h search.h semaphore.h signal.h stdalign.h "
+    "stdarg.h stdbool.h stddef.h stdint.h stdio.h stdlib.h stdnoreturn.h string.h strings.h sysexits.h "
+    "tgmath.h threads.h time.h uchar.h unistd.h utime.h values.h wchar.h wctype.h arpa/inet.h net/if.h "
+    "netinet/in.h netinet/tcp.h sys/errno.h sys/fcntl.h sys/file.h sys/ioctl.h sys/mman.h sys/param.h "
+    "sys/poll.h sys/random.h sys/resource.h sys/select.h sys/signal.h sys/socket.h sys/stat.h "
+    "sys/syscall.h sys/time.h sys/times.h sys/types.h sys/uio.h sys/un.h sys/utsname.h".split())
+# Those that Unix has and wasi-libc hasn't: processes, users, terminals.
+UNIX = frozenset(
+    "dlfcn.h elf.h execinfo.h grp.h link.h netdb.h pthread.h pty.h pwd.h setjmp.h shadow.h spawn.h "
+    "syslog.h termios.h ucontext.h utmp.h utmpx.h wordexp.h sys/epoll.h sys/ipc.h sys/msg.h sys/prctl.h "
+    "sys/ptrace.h sys/sem.h sys/shm.h sys/wait.h".split())
+# Functions of the C library that cryptographic code calls most.
+OF_LIBRARY = frozenset(
+    "abort abs atoi bsearch calloc exit explicit_bzero fclose fopen fprintf fputc fputs fread free fwrite "
+    "getenv isalnum isalpha isdigit isspace isxdigit labs malloc memccpy memchr memmem mempcpy memrchr "
+    "printf putchar puts qsort rand realloc snprintf sprintf srand sscanf stpcpy strcasecmp strcat strchr "
+    "strcmp strcpy strcspn strdup strerror strlen strncasecmp strncat strncmp strncpy strndup strnlen "
+    "strrchr strspn strstr strtok strtol strtoul time tolower toupper vfprintf vprintf vsnprintf vsprintf "
+    "__assert_fail posix_memalign aligned_alloc".split())
+SOME = 12  # so many names are told in a row
+FEW = 3  # so many callers of a name, and so many folders
+FILES = 20_000  # the most that are looked through for a header
+TEMPLATES = (".in", ".cmake", ".cmake.in", ".h.in", ".in.h")
+MISSING = re.compile(r"^(.*?):\d+:(?:\d+:)? fatal error: '([^'\n]+)' file not found", re.M)
+
+
+class Place(NamedTuple):
+    """The folders below the current one from which a header is found, and the templates of it there."""
+
+    folders: List[str]
+    templates: List[str]
+
+
+def looked_up(name: str) -> Place:
+    """Where a header, or what it is made of, stands below the current folder."""
+    place, files = Place([], []), 0
+    for folder, folders, names in os.walk("."):
+        folders[:] = sorted(one for one in folders if not one.startswith("."))
+        files += 1 + len(names)
+        if files > FILES:
+            break
+        for one in sorted(names):
+            path = os.path.normpath(os.path.join(folder, one))
+            if f"/{path}".endswith(f"/{name}"):
+                place.folders.append(path[: -len(name)].rstrip("/") or ".")
+            elif any(f"/{path}".endswith(f"/{kind}") for kind in templates_of(name)):
+                place.templates.append(path)
+    return place
+
+
+def templates_of(name: str) -> List[str]:
+    return [(name[:-2] if ending.startswith(".h") or ending == ".in.h" else name) + ending
+            for ending in TEMPLATES]
+
+
+def header_text(name: str) -> str:
+    """What kind of header a missing one is, and what helps."""
+    if name in STANDARD:
+        return (f"{name} is a standard header: apt-get install wasi-libc has it (or --sysroot FOLDER, or the "
+                "variable WASI_SYSROOT, names where another wasi-libc is)")
+    if name in UNIX:
+        return (f"{name} is a header of Unix, which wasi-libc hasn't: leave out the file, or what includes "
+                "the header")
+    place = looked_up(name)
+    if place.folders:
+        words = " or ".join(f"-I {folder}" for folder in place.folders[:FEW])
+        return f"{name} is a header of the project: say {words}"
+    if place.templates or os.path.basename(name) == "config.h":
+        of = f" from {place.templates[0]}" if place.templates else ""
+        word = "--config-h" if name == "config.h" else f"--config-h={name}"
+        return (f"{name} is generated{of}: run configure (or cmake) first and name its folder by -I, or say "
+                f"{word}, which makes an empty one and shows where")
+    return (f"{name} is a header of the project or of another library: -I FOLDER names where it is; if a "
+            "script makes it, run that first")
+
+
+def about_headers(errors: str) -> List[str]:
+    """What to do about headers that clang doesn't find, and about a clang that can't make WebAssembly."""
+    told = [f"{header_text(name)} [blade-header]"
+            for name in dict.fromkeys(found[1] for found in MISSING.findall(errors))]
+    if "No available targets" in errors or "unable to create target" in errors:
+        told.append("this clang lacks WebAssembly: apt-get install clang")
+    return [f"blade-cc: note: {one}" for one in told]
+
+
+def callers_of(module: Module) -> Dict[str, List[str]]:
+    """Of each function that a module imports, by its name, the functions that call it."""
+    imported = [one.name for one in module.imports if one.sort == FUNCTION]
+    found: Dict[str, List[str]] = {name: [] for name in imported}
+    for caller, functions in called_in(module).items():
+        for function in functions:
+            if function < len(imported):
+                found[imported[function]].append(module.function_name(caller))
+    return found
+
+
+def several(names: Sequence[str], most: int) -> str:
+    """Names in a row, the first few."""
+    told = ", ".join(called(name) for name in names[:most])
+    return told + (f" and {len(names) - most} more" if len(names) > most else "")
+
+
+def undefined(names: Sequence[str], callers: Mapping[str, Sequence[str]]) -> str:
+    """All names that the linker doesn't find, each with who calls it."""
+    told = [called(name) + (f" (called by {several(callers[name], FEW)})" if callers.get(name) else "")
+            for name in names[:SOME]]
+    more = f" and {len(names) - SOME} more" if len(names) > SOME else ""
+    return f"blade-cc: error: no file that was given defines {', '.join(told)}{more} [blade-undefined]"
+
+
+def remedies(names: Sequence[str], has_library: bool) -> Iterator[str]:
+    """What helps, by the kinds of the names."""
+    rest = list(names)
+
+    def taken(pattern: str) -> List[str]:
+        found = [name for name in rest if re.fullmatch(pattern, name)]
+        rest[:] = [name for name in rest if name not in found]
+        return found
+
+    wide = taken(r"__\w*?(mul|div|mod|ashl|ashr|lshr)\w*t[if]\d|__multi3")
+    floats = taken(r"__\w+(sf|df|tf)\w*\d?")
+    library = [] if has_library else taken("|".join(sorted(OF_LIBRARY)))
+    for group, text in (
+            (library, "of the C library: apt-get install wasi-libc has them (blade-cc itself has memcpy, "
+             "memmove, memset and memcmp)"),
+            (wide, "made of __int128: apt-get install libclang-rt-14-dev-wasm32 (or of your clang's "
+             "version), or use smaller products"),
+            (floats, "made of floats, which blade doesn't take"),
+            (rest, "name the files or libraries that define them")):
+        if group:
+            yield f"{several(group, SOME)}: {text}"
+
+
+def about_symbols(missing: Sequence[str], callers: Mapping[str, Sequence[str]],
+                  has_library: bool) -> List[str]:
+    """An error with all names that the linker doesn't find and who calls them, and one note on what helps."""
+    names = sorted(missing)
+    return [undefined(names, callers), f"blade-cc: note: {'; '.join(remedies(names, has_library))}"]
