@@ -336,7 +336,6 @@ class Driver:
         evidence = None
         if self.asked.start and not is_yes:
             evidence, self.explained_by = after_no(self, told, lines, modules, f"{place}/{self.module}")
-        told.level = diagnostics.WARNING if self.asked.no_fail else diagnostics.ERROR
         self.tell(told, lines, modules, f"{place}/{self.module}")
         if self.asked.native and is_yes:
             self.make_native(f"{place}/{self.module}", modules)
@@ -383,6 +382,7 @@ class Driver:
 
     def tell(self, told: diagnostics.Told, lines: Lines, modules: List[str], made: str) -> None:
         """The places: as text, as JSON and as SARIF."""
+        told.level = diagnostics.WARNING if self.asked.no_fail else diagnostics.ERROR
         problems, log = f"{self.folder}/problems.json", f"{self.folder}/{self.module}.sarif"
         image = f"{made}.{self.image_end}"
         self.runner.show([os.path.join(HERE, "blade-explain"), image, *modules, *self.explaining(made),

@@ -7,8 +7,8 @@ questions by yes. Licence: public domain (CC0).
 and the protects. This tool prints what `verify` printed, and says which answers are no.
 
 It ends with 0 if the certificate, the protects, the labels and both together are right; 1 if an answer is no;
-2 for a wrong call; 3 for a file that can't be read; 4 if there is no blade, or if it was killed; any other
-number is that of `blade verify` (12: the image is no image, 13: the certificate is none)."""
+2 for a wrong call; 3 for a file that can't be read; 4 if there is no blade, or if it doesn't answer; any
+other number is that of `blade verify` (12: the image is no image, 13: the certificate is none)."""
 from __future__ import annotations
 
 import subprocess
@@ -16,7 +16,7 @@ import sys
 from typing import List, Optional, Sequence, Tuple
 
 from .ending import ended, is_answered
-from .formats.reading import Bad
+from .formats.reading import GaveUp
 from .printing import say
 from .statuses import GAVE_UP, NO, USAGE, YES
 from .witnesses.program import program_of
@@ -47,7 +47,7 @@ def answers(text: str) -> List[Tuple[str, bool]]:
     lines = [line.split(" ") for line in text.splitlines()]
     if ([line[0] for line in lines] != list(ANSWERS)
         or any(line[1:2] not in (["yes"], ["no"]) for line in lines)):
-        raise Bad("blade verify doesn't answer its four questions")
+        raise GaveUp("blade verify doesn't answer its four questions")
     return [(line[0], line[1:] == ["yes"]) for line in lines]
 
 

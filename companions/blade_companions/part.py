@@ -7,7 +7,7 @@ import sys
 import tempfile
 from typing import List, Sequence, Tuple
 
-from .c.arguments import DISAGREE, LABELS, NO, REFUSED, YES, Stop
+from .c.arguments import DISAGREE, LABELS, REFUSED, Stop
 from .c.declarations import NOTHING
 from .c.paths import shown
 from .c.tools import HERE, written_to
@@ -18,6 +18,7 @@ from .formats.interface import Linked, faults, read_interface, stub_of, unfit
 from .formats.module import Module, read_module
 from .formats.reading import read_file
 from .printing import say
+from .statuses import NO, YES
 from .verdict import text
 
 # What stands for the certificate of a part, which has none: verify judges the labels of the image by itself.

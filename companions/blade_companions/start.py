@@ -41,6 +41,7 @@ from .statuses import DONE, USAGE
 from .writing import write_file
 
 UNIT = 16  # the bytes that addresses of buffers are multiples of
+HEAP = frozenset(["dlmalloc", "try_init_allocator", "init_top"])  # functions of wasi-libc's malloc
 WRAPPED = ".command_export"
 NUMBER = re.compile(r"-?(?:[0-9]{1,20}|0x[0-9a-fA-F]{1,16})")
 REFERENCE = re.compile(r"(at|size):([^+]+)(?:\+([0-9]{1,10}))?")
@@ -180,6 +181,13 @@ class Call:
         return start_text([self.argument(index) for index in range(len(self.function.types))], contents)
 
 
+def refuse_heap(module: Module) -> None:
+    """wasi-libc's malloc takes all of the memory behind C's data, and writes to its end."""
+    if not HEAP.isdisjoint(module.names.values()):
+        raise Bad(f"{module.path}: the malloc of wasi-libc takes all memory behind C's data, so no place for "
+                  "buffers is left: link by blade-cc --allocator")
+
+
 def memory_of(modules: Sequence[Module]) -> int:
     """The number of the last module's memory among those of all."""
     return sum(one.memories - len(one.imported(MEMORY)) for one in modules[:-1])
@@ -216,6 +224,8 @@ def made(asked: argparse.Namespace) -> Tuple[str, List[str]]:
     modules = [read_module(path) for path in asked.files[:-1]]
     function = Function(modules[-1], asked.files[-1])
     call, layout, memory = Call(function, asked.arg), layout_of(modules[-1]), memory_of(modules)
+    if call.buffers:
+        refuse_heap(modules[-1])
     call.place(layout)
     inside = {function.index(name) for name in asked.vault.split(",") if name}
     if inside and not memory:

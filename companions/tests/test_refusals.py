@@ -2,6 +2,7 @@
 from __future__ import annotations
 
 import os
+import re
 import tempfile
 import unittest
 
@@ -9,6 +10,9 @@ from blade_companions.c.missing import about_headers, about_symbols
 from blade_companions.c.refusals import refusal
 from blade_companions.formats.encoding import section, sized, vector
 from blade_companions.formats.module import MAGIC, Module, module_of
+from blade_companions.programs import TOP
+from blade_companions.verdict.diagnostics import RULES
+from blade_companions.verdict.sarif import PROTECT
 
 # Function types () -> () and (f32) -> (); a function 0 imported as a.b; then one function of each kind of
 # body.
@@ -57,6 +61,18 @@ class Refusals(unittest.TestCase):
                 self.assertEqual((told.function, at), (function, place))
                 self.assertIn(word, told.text)
 
+    def test_all_rules_have_a_section(self) -> None:
+        with open(os.path.join(TOP, "docs", "rules.md"), encoding="utf-8") as file:
+            sections = set(re.findall(r"^### (.*)$", file.read(), re.M))
+        named = {PROTECT, *(rule.name for rule in RULES.values())}
+        for folder, _, names in os.walk(os.path.join(TOP, "companions", "blade_companions")):
+            for name in names:
+                if name.endswith(".py"):
+                    with open(os.path.join(folder, name), encoding="utf-8") as file:
+                        named.update(re.findall(r"\[(blade-[a-z-]+)\]", file.read()))
+        self.assertGreater(len(named), 20)
+        self.assertEqual(sections, named)
+
     def test_a_start_function(self) -> None:
         self.assertIn("[blade-start]", refusal(module("00 0B", START), "unsupported: m").text)
 
@@ -87,8 +103,11 @@ class Refusals(unittest.TestCase):
             os.chdir(folder)
             try:
                 for name, text in HEADERS.items():
-                    told = about_headers(f"x.c:3:10: fatal error: '{name}' file not found\n")
+                    error = f"x.c:3:10: fatal error: '{name}' file not found\n"
+                    told = about_headers(error, False)
                     self.assertEqual(len(told), 1)
                     self.assertIn(f"blade-cc: note: {name} is {text}", told[0])
+                    self.assertEqual("which the wasi-libc here hasn't" in about_headers(error, True)[0],
+                                     "a standard header" in text)
             finally:
                 os.chdir(kept)

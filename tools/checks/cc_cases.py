@@ -213,8 +213,12 @@ GUESSES = [
          "    for (unsigned i = 0; i < n; i++) x += table[(s[i] ^ k[i]) & 15];\n    return x;\n}\n"),
     Case("cut", MEMORY, 1,
          ["likely a look-up or a branch by a secret, since bits are cut out of it for addresses"],
-         "static const unsigned T[256] = {1, 2, 3};\nvoid cut(unsigned *s, unsigned n) {\n"
-         "    for (unsigned i = 0; i < n; i++) s[i] = T[s[i] & 255];\n}\n"),
+         "struct context { unsigned word; };\nstatic const unsigned T[256] = {1, 2, 3};\n"
+         "unsigned cut(struct context *c) { return T[c->word >> 8 & 255] + T[c->word >> 16 & 255]; }\n"),
+    Case("counter", MEMORY, 1, [ROUNDS],
+         "struct context { unsigned count[2]; unsigned char buffer[64]; };\n"
+         "void counter(struct context *c, unsigned char byte) {\n"
+         "    c->buffer[(c->count[0] >> 3) & 63] = byte;\n    c->count[0] += 8;\n}\n"),
     Case("field", MEMORY, 1, ["likely a public number in a secret memory"],
          "struct context { unsigned state[4], rounds; };\nvoid field(struct context *c) {\n"
          "    for (unsigned i = 0; i < c->rounds; i++) c->state[i & 3] += i;\n}\n"),

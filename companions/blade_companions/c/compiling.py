@@ -158,7 +158,7 @@ class Compiler:
         sys.stdout.write(done.out)
         sys.stderr.write(done.errors)
         if done.status:
-            raise Stop(BUILD, *about_headers(done.errors))
+            raise Stop(BUILD, *about_headers(done.errors, os.path.isdir(self.asked.wasi_headers())))
 
 
 def between(to: str, folder: str) -> str:

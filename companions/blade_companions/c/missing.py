@@ -69,8 +69,11 @@ def templates_of(name: str) -> List[str]:
             for ending in TEMPLATES]
 
 
-def header_text(name: str) -> str:
+def header_text(name: str, has_library: bool) -> str:
     """What kind of header a missing one is, and what helps."""
+    if name in STANDARD and has_library:
+        return (f"{name} is a standard header, which the wasi-libc here hasn't: name another by --sysroot "
+                "FOLDER, or leave out what includes the header")
     if name in STANDARD:
         return (f"{name} is a standard header: apt-get install wasi-libc has it (or --sysroot FOLDER, or the "
                 "variable WASI_SYSROOT, names where another wasi-libc is)")
@@ -90,9 +93,9 @@ def header_text(name: str) -> str:
             "script makes it, run that first")
 
 
-def about_headers(errors: str) -> List[str]:
+def about_headers(errors: str, has_library: bool) -> List[str]:
     """What to do about headers that clang doesn't find, and about a clang that can't make WebAssembly."""
-    told = [f"{header_text(name)} [blade-header]"
+    told = [f"{header_text(name, has_library)} [blade-header]"
             for name in dict.fromkeys(found[1] for found in MISSING.findall(errors))]
     if "No available targets" in errors or "unable to create target" in errors:
         told.append("this clang lacks WebAssembly: apt-get install clang")

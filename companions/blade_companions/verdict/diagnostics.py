@@ -329,7 +329,8 @@ def as_text(told: Told, image: str, limit: int, lines: Lines, everything: bool =
                               lines)
 
 
-def violations(told: Told, problems: Sequence[Problem], image: str, limit: int, lines: Lines) -> Iterator[str]:
+def violations(told: Told, problems: Sequence[Problem], image: str, limit: int,
+               lines: Lines) -> Iterator[str]:
     origins = set()
     for one in problems[:limit]:
         where = spelled(one.line, f"{image}: position {one.position} of {one.function}")

@@ -24,7 +24,7 @@ if TYPE_CHECKING:
     from .diagnostics import Told
 
 RUN = 1_000_000  # so many commands of a run are followed
-UNPROVED = "by this one run and unproved"
+LOOKS_PUBLIC, UNPROVED = "looks public", "by this one run and unproved"
 
 
 def function_of(image: Image, export: str) -> int:
@@ -131,7 +131,7 @@ class Evidence:
         elif reached:
             helps = (f"{likely.reason}: {likely.remedy}" if likely in (POINTER, SHARED)
                      else "give it as a parameter, or keep it in the ledger")
-            said = f"looks public, {UNPROVED}; {helps}"
+            said = f"{LOOKS_PUBLIC}, {UNPROVED}; {helps}"
         else:
             said = "this run doesn't come there; give other starts"
         return f"reached {reached}, met {met}: {said}"
@@ -152,6 +152,8 @@ class Evidence:
         for one in told.problems:
             ends = by_line.get(key_of(one.line, one.position), [])
             text = self.text(ends, likely=one.likely)
+            if text and LOOKS_PUBLIC not in text:  # what helps then is told with it
+                text += f"; what helps: {one.rule.help}"
             if text:
                 told.observed[one.position], one.likely = text, None
             if told.witnessed is None and self.is_witnessed(ends):

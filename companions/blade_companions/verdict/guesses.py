@@ -54,9 +54,8 @@ BYTES = frozenset([0x2C, 0x2D, 0x30, 0x31])  # loads of a byte
 WALKED = 100_000  # the most commands that are looked at for one step of a way
 STEPS = 30  # the most steps of a way that are looked at
 BASES = 64  # the most variables that are looked at for an address
-# C's text where an element with a variable index is loaded, and where bits are cut out of one
-ELEMENT = re.compile(r"(?:\w+(?:->|\.))*\w+\[[^]]*[A-Za-z_]")
-CUT_OUT = re.compile(r"(?:\w+(?:->|\.))*\w+\[[^]]*\]\s*(?:&(?!&)|>>)")
+# C's text where an element of an array is loaded
+ELEMENT = re.compile(r"(?:\w+(?:->|\.))*\w+\[")
 LOADS = 3  # so many loads of a cause are looked at
 
 
@@ -99,11 +98,13 @@ class Guesser:
         operators = {command.operator for command in commands if command.kind == "Set"}
         if operators & MIXING:
             return "it is mixed by xor or rotations on the way"
+        if self.why_unknown(cause):
+            return ""
         conditions, addresses, _ = cause.columns()
-        if CUT_OUT.match(text_at(cause, self.lines)) or operators & CUTTING and 4 * conditions < addresses:
+        if operators & CUTTING and 4 * conditions < addresses:
             return "bits are cut out of it for addresses"
         is_byte = any(command.kind == "Load" and command.operator in BYTES for command in commands)
-        return "a byte is loaded" if is_byte and not self.why_unknown(cause) else ""
+        return "a byte is loaded" if is_byte else ""
 
     def why_unknown(self, cause: "Cause") -> str:
         """Why a cause may as well be a count or a pointer as a part of a key: arrays hold both. Empty where

@@ -10,8 +10,10 @@ from typing import Optional, Sequence, Tuple
 
 from .diagnostics import ERROR, RULES, Problem, Rule, Told, problem_text
 from ..c.lines import Line, Lines
+from ..programs import TOP
 
 PROTECT = "blade-protect"
+PAGE = os.path.join(TOP, "docs", "rules.md")  # which has a section for each rule
 SCHEMA = "https://json.schemastore.org/sarif-2.1.0.json"
 
 
@@ -85,6 +87,11 @@ def fingerprint(one: Problem, source: str) -> str:
     return hashlib.sha256("\0".join(parts).encode()).hexdigest()[:32]
 
 
+def help_of(name: str) -> str:
+    """Where the rule is explained, in this release or clone: SARIF asks for an absolute URI."""
+    return f"file://{quoted(PAGE)}#{name}"
+
+
 def rule_object(rule: Rule, level: str) -> dict:
     return {
         "id": rule.name, "name": rule.title,
@@ -93,7 +100,7 @@ def rule_object(rule: Rule, level: str) -> dict:
                             "addresses, divisions and branches learns of it."},
         "help": {"text": "If what is loaded is public, make it a parameter or keep it in the ledger. If it "
                  f"is secret: {rule.help}."},
-        "defaultConfiguration": {"level": level},
+        "helpUri": help_of(rule.name), "defaultConfiguration": {"level": level},
         "properties": {"tags": ["security", "constant-time"], "security-severity": "6.0"},
     }
 
@@ -103,7 +110,8 @@ PROTECT_RULE = {
     "shortDescription": {"text": "A value is held back until no older branch is open"},
     "fullDescription": {"text": "Of a value that is loaded under a guess, so that it can't reach an address "
                         "or a branch. No lighter set of protects passes."},
-    "defaultConfiguration": {"level": "note"}, "properties": {"tags": ["speculation"]},
+    "helpUri": help_of(PROTECT), "defaultConfiguration": {"level": "note"},
+    "properties": {"tags": ["speculation"]},
 }
 
 
@@ -158,7 +166,8 @@ def errors_as_sarif(lines: Sequence[str], root: str, version: str) -> str:
         "locations": [location(Line(path, int(number), "", int(column or 0)), "", "", root, "", 0)],
     } for path, number, column, message, rule in found]
     run = {
-        "tool": {"driver": {"name": "blade", "version": version, "rules": [{"id": name} for name in names]}},
+        "tool": {"driver": {"name": "blade", "version": version,
+                            "rules": [{"id": name, "helpUri": help_of(name)} for name in names]}},
         "originalUriBaseIds": {"SRCROOT": {"uri": "file://" + quoted(root.rstrip("/")) + "/"}},
         "invocations": [{"executionSuccessful": False}], "results": results,
     }

@@ -1,5 +1,5 @@
 """Random programs end natively as `blade run` ends them: results, traps, pages and every changed row. SEEDS
-says how many of each kind. Licence: public domain (CC0)."""
+says how many of each kind, FIRST the first seed. Licence: public domain (CC0)."""
 import os
 import random
 import sys
@@ -15,7 +15,7 @@ sys.path += [f"{TOP}/oracles", f"{TOP}/tools/checks"]
 import made  # noqa: E402
 import made_modules  # noqa: E402
 
-SEEDS = int(os.environ.get("SEEDS", "200"))
+SEEDS, FIRST = int(os.environ.get("SEEDS", "200")), int(os.environ.get("FIRST", "0"))
 STEPS, ENDED, SPENT = "1000000", 16, 17
 LEVELS = ("-O0", "-O1", "-O2", "-O3")
 
@@ -92,9 +92,10 @@ class Random(unittest.TestCase):
 
     def all_same(self, what: str, runs: Callable[[int], List[Run]]) -> None:
         with ThreadPoolExecutor(2) as pool:
-            found = list(pool.map(runs, range(SEEDS)))
+            found = list(pool.map(runs, range(FIRST, FIRST + SEEDS)))
         ends = [one for some in found for one in some]
-        wrong = [seed for seed, some in enumerate(found) if any(one.native != one.blade for one in some)]
+        wrong = [seed for seed, some in enumerate(found, FIRST)
+                 if any(one.native != one.blade for one in some)]
         self.assertEqual(wrong, [])
         self.assertGreaterEqual(len(ends), SEEDS * 0.9)
         first = {one.blade.splitlines()[0] for one in ends}
