@@ -172,6 +172,12 @@ def tried(check: Check, functions: Sequence[Function]) -> None:
                 check.say(function.__name__, False, failed)
 
 
+def found_program() -> str:
+    """The program that the launcher would run, or nothing; the launcher's notes go to standard error."""
+    done = subprocess.run([f"{TOP}/tools/building/program"], stdout=subprocess.PIPE, text=True, check=False)
+    return done.stdout.strip()
+
+
 def main(doc: str, functions: Sequence[Function], make: Callable[..., Check] = Check,
          add: Callable[[argparse.ArgumentParser], None] = lambda parser: None,
          tools: Sequence[str] = (), room: str = tempfile.gettempdir(), prefix: str = "check-",
@@ -179,7 +185,7 @@ def main(doc: str, functions: Sequence[Function], make: Callable[..., Check] = C
     """Runs a check, and ends with its status. Without the tools all of it is skipped. Files are written into
     a folder in `room`."""
     options, begun, name = options_of(doc, functions, add), time.monotonic(), name_of_script()
-    program = os.path.abspath(options.program or ran(f"{TOP}/tools/building/program")[1].strip() or "blade")
+    program = os.path.abspath(options.program or found_program() or "blade")
     if needs_program and not os.access(program, os.X_OK):
         sys.exit(f"{name}: there is no program {program}: ./blade builds one")
     with tempfile.TemporaryDirectory(prefix=prefix, dir=room) as folder:

@@ -7,8 +7,8 @@ use Rattle.bl_forward.specs.ForwardMachines.{HasEqualForwarding, forward_step}
 use Rattle.bl_forward.specs.SameSights.{seen_decided}
 use Rattle.bl_forward.specs.SightTexts.{are_same, seen_text}
 use Rattle.bl_forward.specs.Verdicts.{AssessesForward}
-use Rattle.bl_forward.specs.declared.verdict.ForwardVerdict.{ForwardVerdict}
-use Rattle.bl_forward.specs.declared.verdict.ForwardVerdict.TheVariants.{Safe, NotConstantTime, NotStable}
+use Rattle.bl_sct.specs.declared.verdict.Verdict.{Verdict}
+use Rattle.bl_sct.specs.declared.verdict.Verdict.TheVariants.{Safe, NotConstantTime, NotStable}
 use Rattle.bl_sct.specs.OtherSecrets.{HidesGlobalsBy}
 use Rattle.bl_twin.specs.TwinComparisons.{agreement_text, comparison_text, twin_text_by}
 use Rattle.bl_twin.proofs.Comparisons.{never_by, told_by}
@@ -72,7 +72,7 @@ module _ (t : Twinned) (plan : Plan) (h : ForwardPlans t plan) where
   begins_by : IsSafe (entry_of t).program → BeginsWith (safe_text true) plan.text
   begins_by safe = (_, text_is ∙ ap (λ s. text_of t s h.agree) (h.is_safe.1 safe))
 
-  assessed_so : (verdict : ForwardVerdict) → AssessesForward (entry_of t).program verdict → verdict ≡ Safe ↔ BeginsWith (safe_text true) plan.text
+  assessed_so : (verdict : Verdict) → AssessesForward (entry_of t).program verdict → verdict ≡ Safe ↔ BeginsWith (safe_text true) plan.text
   assessed_so Safe a = (λ e. begins_by (a.0, a.1), λ begins. refl)
   assessed_so (NotConstantTime chain) a = (λ e. absurd cc, λ begins. absurd (a.1 (is_safe_by begins).0))
   assessed_so (NotStable position) a = (λ e. absurd cc, λ begins. absurd (a.passes_not (is_safe_by begins).1))

@@ -52,11 +52,11 @@ use Rattle.bl_app.proofs.JoinedUsers.{AreBoth, StandFor}
 -- ---- the modules
 
 -- from nothing to an i32
-abbrev type : FuncType
+abbrev pub type : FuncType
 type = record { params = []; results = I32 ∷ [] }
 
 -- a module of one function, which it exports
-abbrev made : List Import → List Limits → List Instr → List ℕ → ℕ → Module
+abbrev pub made : List Import → List Limits → List Instr → List ℕ → ℕ → Module
 made imports memories items name index = record {
   types = type ∷ [];
   imports = imports;
@@ -72,31 +72,31 @@ made imports memories items name index = record {
   customs = [];
 }
 
-abbrev room : Limits
+abbrev pub room : Limits
 room = record { min = 0; max = Some 1 }
 
-abbrev wanted : Import
+abbrev pub wanted : Import
 wanted = record { from = codes "lib"; name = codes "f"; kind = import.Function 0 }
 
 -- f is 0 in the stub, and 7 in the library, which has a memory; g calls f
-abbrev stub_part : Part
+abbrev pub stub_part : Part
 stub_part = part_of (codes "lib") (made [] [] (I32Const 0 ∷ []) (codes "f") 0) unlabelled
 
-abbrev library_part : Part
+abbrev pub library_part : Part
 library_part = part_of (codes "lib") (made [] (room ∷ []) (I32Const 7 ∷ []) (codes "f") 0) unlabelled
 
-abbrev user_part : Part
+abbrev pub user_part : Part
 user_part = part_of (codes "main") (made (wanted ∷ []) [] (Call 0 ∷ []) (codes "g") 1) unlabelled
 
-abbrev iface : Iface
+abbrev pub iface : Iface
 iface = record { functions = record { name = codes "lib/f"; params = []; results = flow.Stable ∷ [] } ∷ [] }
 
 -- ---- the trees
 
-abbrev function : ℕ → List Instr → Function
+abbrev pub function : ℕ → List Instr → Function
 function index items = record { type_index = index; labels = []; demanded = false ∷ []; code = record { locals = []; items = items }; memory = None; table = None }
 
-abbrev stub : Tree
+abbrev pub stub : Tree
 stub = record {
   types = record { params = []; results = value.I32 ∷ [] } ∷ [];
   functions = function 0 (I32Const 0 ∷ []) ∷ [];
@@ -106,7 +106,7 @@ stub = record {
   exports = (codes "lib/f", 0) ∷ [];
 }
 
-abbrev client : Tree
+abbrev pub client : Tree
 client = record {
   types = record { params = []; results = value.I32 ∷ [] } ∷ record { params = []; results = value.I32 ∷ [] } ∷ [];
   functions = function 0 (I32Const 0 ∷ []) ∷ function 1 (Call 0 ∷ []) ∷ [];
@@ -116,7 +116,7 @@ client = record {
   exports = (codes "lib/f", 0) ∷ (codes "main/g", 1) ∷ [];
 }
 
-abbrev library : Tree
+abbrev pub library : Tree
 library = record {
   types = record { params = []; results = value.I32 ∷ [] } ∷ [];
   functions = record (function 0 (I32Const 7 ∷ [])) { memory = Some 0 } ∷ [];
@@ -126,7 +126,7 @@ library = record {
   exports = (codes "lib/f", 0) ∷ [];
 }
 
-abbrev whole : Tree
+abbrev pub whole : Tree
 whole = record {
   types = record { params = []; results = value.I32 ∷ [] } ∷ record { params = []; results = value.I32 ∷ [] } ∷ [];
   functions = record (function 0 (I32Const 7 ∷ [])) { memory = Some 0 } ∷ function 1 (Call 0 ∷ []) ∷ [];
@@ -138,7 +138,7 @@ whole = record {
 
 -- ---- they are parts
 
-one : {A : Type 0} (P : A → Type 0) (x : A) → P x → All P (x ∷ [])
+pub one : {A : Type 0} (P : A → Type 0) (x : A) → P x → All P (x ∷ [])
 one P x h = All-cons P x [] h (All-nil P)
 
 alone : {A : Type 0} (x : A) (i j : ℕ) (a b : A) → slice_get (x ∷ []) i ≡ Some a → slice_get (x ∷ []) j ≡ Some b → i ≡ j
@@ -297,20 +297,22 @@ user_is = is_part (wanted ∷ []) [] (Call 0) (codes "g") 1 (codes "main") main_
 one_part : (part : Part) → IsPart part → AreParts (part ∷ [])
 one_part part is = record { each = one IsPart part is; few = omega arith; distinct = λ i j a b e f same. alone part i j a b e f }
 
--- two of other names
-two_parts : (part other : Part) → IsPart part → IsPart other → (part.name ≡ other.name → ⊥) → AreParts (part ∷ other ∷ [])
-two_parts part other is are apart = record { each = All-cons IsPart part (other ∷ []) is (one IsPart other are); few = omega arith; distinct = distinct }
-  where
-    distinct : (i j : ℕ) (a b : Part) → slice_get (part ∷ other ∷ []) i ≡ Some a → slice_get (part ∷ other ∷ []) j ≡ Some b → a.name ≡ b.name → i ≡ j
-    distinct zero zero a b e f same = refl
-    distinct zero (suc zero) a b e f same = absurd (apart (ap (λ (p : Part). p.name) (same_Some part a e) ∙ same ∙ sym (ap (λ (p : Part). p.name) (same_Some other b f))))
-    distinct zero (suc (suc j)) a b e f same = absurd (none-some b f)
-    distinct (suc zero) zero a b e f same = absurd (apart (ap (λ (p : Part). p.name) (same_Some part b f) ∙ sym same ∙ sym (ap (λ (p : Part). p.name) (same_Some other a e))))
-    distinct (suc zero) (suc zero) a b e f same = refl
-    distinct (suc zero) (suc (suc j)) a b e f same = absurd (none-some b f)
-    distinct (suc (suc i)) j a b e f same = absurd (none-some a e)
+-- two of other names stand apart
+pub two_apart : {A : Type 0} (name : A → List ℕ) (x y : A) → (name x ≡ name y → ⊥) → (i j : ℕ) (a b : A) → slice_get (x ∷ y ∷ []) i ≡ Some a → slice_get (x ∷ y ∷ []) j ≡ Some b
+    → name a ≡ name b → i ≡ j
+two_apart name x y apart zero zero a b e f same = refl
+two_apart name x y apart zero (suc zero) a b e f same = absurd (apart (ap name (same_Some x a e) ∙ same ∙ sym (ap name (same_Some y b f))))
+two_apart name x y apart zero (suc (suc j)) a b e f same = absurd (none-some b f)
+two_apart name x y apart (suc zero) zero a b e f same = absurd (apart (ap name (same_Some x b f) ∙ sym same ∙ sym (ap name (same_Some y a e))))
+two_apart name x y apart (suc zero) (suc zero) a b e f same = refl
+two_apart name x y apart (suc zero) (suc (suc j)) a b e f same = absurd (none-some b f)
+two_apart name x y apart (suc (suc i)) j a b e f same = absurd (none-some a e)
 
-names_apart : codes "lib" ≡ codes "main" → ⊥
+two_parts : (part other : Part) → IsPart part → IsPart other → (part.name ≡ other.name → ⊥) → AreParts (part ∷ other ∷ [])
+two_parts part other is are apart =
+    record { each = All-cons IsPart part (other ∷ []) is (one IsPart other are); few = omega arith; distinct = two_apart (λ (p : Part). p.name) part other apart }
+
+pub names_apart : codes "lib" ≡ codes "main" → ⊥
 names_apart e = let lengths : 3 ≡ 4 = ap (λ (l : List ℕ). length l) e in omega (arith, lengths)
 
 pub linked : AreLinked (stub_part ∷ []) (library_part ∷ []) (user_part ∷ []) stub library client whole
@@ -341,7 +343,7 @@ both : All (λ (one : FnIface). AreBoth client library one.name) iface.functions
 both = one (λ (one : FnIface). AreBoth client library one.name) (record { name = codes "lib/f"; params = []; results = flow.Stable ∷ [] })
     (record { function = 0; callee = 0; here = refl; there = refl })
 
-names : StandFor iface stub library
+pub names : StandFor iface stub library
 names one other function h k e f = by (bytes_eq one (codes "lib/f")) refl (bytes_eq other (codes "lib/f")) refl h k
   where
     by : (a : Bool) → bytes_eq one (codes "lib/f") ≡ a → (b : Bool) → bytes_eq other (codes "lib/f") ≡ b → (a || false) ≡ true → (b || false) ≡ true
@@ -351,7 +353,7 @@ names one other function h k e f = by (bytes_eq one (codes "lib/f")) refl (bytes
     by true x false y h k = absurd (false≢true k)
     by false x b y h k = absurd (false≢true h)
 
-own : IsOwn stub client (codes "main/g")
+pub own : IsOwn stub client (codes "main/g")
 own function (zero, e) lt =
     let same : codes "lib/f" ≡ codes "main/g" = ap (λ (pair : List ℕ × ℕ). pair.0) (same_Some (codes "lib/f", 0) (codes "main/g", function) e) in
     let lengths : 5 ≡ 6 = ap (λ (l : List ℕ). length l) same in
@@ -363,7 +365,7 @@ own function (suc (suc i), e) lt = absurd (none-some (codes "main/g", function) 
 
 -- ---- their programs can be joined
 
-can_join : CanJoin (low_tree client) (low_tree library) iface
+pub can_join : CanJoin (low_tree client) (low_tree library) iface
 can_join = record {
   types = one (HasSameTypes (low_tree client) (low_tree library)) (record { name = codes "lib/f"; params = []; results = flow.Stable ∷ [] })
       (λ function callee e f. sym (ap (λ (n : ℕ). types_of (low_tree client) n) (same_Some 0 function e)) ∙ ap (λ (n : ℕ). types_of (low_tree library) n) (same_Some 0 callee f));

@@ -5,8 +5,8 @@ use Rattle.bl_forward.specs.ForwardMachines.{HasEqualForwarding, forward_step, o
 use Rattle.bl_forward.specs.SightTexts.{are_same, seen_text}
 use Rattle.bl_forward.specs.Verdicts.{AssessesForward}
 use Rattle.bl_forward.specs.declared.seen.Seen.{Seen}
-use Rattle.bl_forward.specs.declared.verdict.ForwardVerdict.{ForwardVerdict}
-use Rattle.bl_forward.specs.declared.verdict.ForwardVerdict.TheVariants.{Safe, NotConstantTime, NotStable}
+use Rattle.bl_sct.specs.declared.verdict.Verdict.{Verdict}
+use Rattle.bl_sct.specs.declared.verdict.Verdict.TheVariants.{Safe, NotConstantTime, NotStable}
 use Rattle.bl_graph.specs.Labels.{ConstantTime}
 use Rattle.bl_outcome.specs.Lines.{line}
 use Rattle.bl_rob.specs.Observations.{Observed}
@@ -43,7 +43,7 @@ forward_comparison twinned = comparison_by are_same (forwarded_of twinned) (othe
 abbrev pub IsSafe : Program → Type 0
 IsSafe program = ConstantTime program × IsStable program
 
-abbrev pub is_verdict_safe : ForwardVerdict → Bool
+abbrev pub is_verdict_safe : Verdict → Bool
 is_verdict_safe Safe = true
 is_verdict_safe (NotConstantTime chain) = false
 is_verdict_safe (NotStable position) = false
@@ -74,7 +74,7 @@ BeginsWith front text = (rest : List ℕ) × (text ≡ front ++ rest)
 -- `public agree`, the runs don't differ
 pub record ForwardMeans (twinned : Twinned) (plan : Plan) : Type 0 where
   pub tells : TellsBy are_same (forwarded_of twinned) (other_forwarded twinned)
-  pub assessed : (verdict : ForwardVerdict) → AssessesForward (entry_of twinned).program verdict
+  pub assessed : (verdict : Verdict) → AssessesForward (entry_of twinned).program verdict
       → verdict ≡ Safe ↔ BeginsWith (safe_text true) plan.text
   pub equal : BeginsWith (safe_text true) plan.text → HasEqualForwarding (entry_of twinned).program
   pub hides : BeginsWith (safe_text true) plan.text → HidesGlobalsBy forward_step (entry_of twinned).program

@@ -18,3 +18,4 @@ pub mod SpecJob
 pub mod Texts
 pub mod TwinJob
 pub mod VerifyJob
+pub mod WorkedCalls

@@ -1,5 +1,5 @@
 //! Laws of the definitions. Each function is its contract alone.
-ghost use Rattle.std.specs.Prelude.{◌≡◌, ◌≤◌, ◌↔◌, ◌⊎◌, ℕ, ◌*◌, List as Listed, [], ◌∷◌, Option, None, Some, slice_get};
+ghost use Rattle.std.specs.Prelude.{◌≡◌, ◌≤◌, ◌↔◌, ◌⊎◌, ℕ, ◌*◌, List as Listed, [], ◌∷◌, codes, Option, None, Some, slice_get};
 ghost use Rattle.bl_base.specs.Quantity.{limit_of};
 ghost use Rattle.bl_base.specs.declared.quantity.Quantity.TheVariants as quantity;
 ghost use Rattle.bl_outside.specs.Shelf.{Files};
@@ -19,6 +19,7 @@ ghost use Rattle.bl_app.specs.CountedHardening.{AreExecutedLeast, AreTaken, IsIm
 ghost use Rattle.bl_app.specs.{RunJob.RunDoes, HardenJob.HardenDoes, HardenJob.harden_job, InterpJob.InterpDoes, PartJob.PartMeans};
 ghost use Rattle.bl_build.specs.HardenStage.{Hardened, IsHardened, IsYes};
 ghost use Rattle.bl_apart.specs.LinkedApart.{HasOrigin, IsOwn};
+ghost use Rattle.bl_app.specs.WorkedCalls.{AreMet, worked_calls};
 ghost use Rattle.bl_app.specs.JoinedModules.{AreKept, AreLoaded, Calls, EndsAsLinked, KeepTo, Trees};
 ghost use Rattle.bl_iface.specs.declared.iface.Iface.{Iface};
 ghost use Rattle.bl_job.specs.Jobs.{AreRead, FirstRefusal, IsLawful, IsTotal, Plan};
@@ -181,4 +182,10 @@ pub fn joined_images_end_as_linked_modules()
     ensures nothing_else { (calls : Calls) (iface : Iface) (trees : Trees) (own program : Program) → AreKept calls → IsFileOf calls.iface.bytes iface → AreLoaded calls trees
         → KeepTo calls iface trees → Image own calls.joined.bytes → bare program ≡ bare own
         → (name : Listed ℕ) (number : ℕ) → function_named name program.exports ≡ Some number → HasOrigin iface trees.stub trees.whole name number }
+{}
+
+/// All that [`joined_images_end_as_linked_modules`] asks for can be so: a stub, a user and a library in files, an interface and three images are written out, of which all of it holds. The
+/// user's function, which calls one of the stub that returns 0, returns the library's 7 without arguments: in the linked modules, and in the program of the joined image.
+pub fn there_are_joined_images()
+    ensures { AreMet worked_calls (codes "main/g") (7 ∷ []) }
 {}

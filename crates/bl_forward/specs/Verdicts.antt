@@ -4,11 +4,11 @@ use Rattle.bl_graph.specs.Labels.{ConstantTime}
 use Rattle.bl_graph.specs.SecretChains.{IsSecretChain}
 use Rattle.bl_sct.specs.Verdicts.{IsStable, IsUnstable}
 use Rattle.bl_forward.specs.ForwardMachines.{HasEqualForwarding}
-use Rattle.bl_forward.specs.declared.verdict.ForwardVerdict.{ForwardVerdict}
-use Rattle.bl_forward.specs.declared.verdict.ForwardVerdict.TheVariants.{Safe, NotConstantTime, NotStable}
+use Rattle.bl_sct.specs.declared.verdict.Verdict.{Verdict}
+use Rattle.bl_sct.specs.declared.verdict.Verdict.TheVariants.{Safe, NotConstantTime, NotStable}
 
 -- by the causes of `assess`; where it is safe, runs are observed alike
-abbrev pub AssessesForward : Program → ForwardVerdict → Type 0
+abbrev pub AssessesForward : Program → Verdict → Type 0
 AssessesForward program Safe = ConstantTime program × IsStable program × HasEqualForwarding program
 AssessesForward program (NotConstantTime chain) = IsSecretChain program chain × (ConstantTime program → ⊥)
 AssessesForward program (NotStable position) = IsUnstable program position.0

@@ -8,7 +8,8 @@ mod runs;
 mod seen;
 mod verdict;
 
+pub use bl_sct::Verdict as ForwardVerdict;
 pub use load::{Forward, Fwd};
 pub use runs::compare_forwarding;
 pub use seen::Seen;
-pub use verdict::{ForwardVerdict, forward_safe};
+pub use verdict::forward_safe;

@@ -1,11 +1,14 @@
 -- A part is linked by the steps of its code.
 use Rattle.std.proofs.Common.{◌≡◌, ◌∙◌, sym, ap, subst, ℕ, List, ◌++◌, map, Result, Ok}
 use Rattle.bl_labels.specs.declared.labels.Labels.{Labels}
+use Rattle.bl_wasm.specs.declared.module.Code.{Code}
+use Rattle.bl_wasm.specs.declared.module.DataSegment.{DataSegment}
+use Rattle.bl_wasm.specs.declared.module.ElementSegment.{ElementSegment}
 use Rattle.bl_wasm.specs.declared.module.Module.{Module}
 use Rattle.bl_link.specs.CanLink.{CanLink}
 use Rattle.bl_link.specs.LinkAnswers.{Makes}
 use Rattle.bl_link.specs.HasRoom.{HasRoom}
-use Rattle.bl_link.specs.Links.{exported, part_of, with_given, with_next, with_part, with_segments}
+use Rattle.bl_link.specs.Links.{exported, part_of, with_code, with_given, with_next, with_part, with_segments}
 use Rattle.bl_link.specs.ImportMatches.{all_given}
 use Rattle.bl_link.specs.IndexSpaces.{External, LinkError, Part, Spaces, Store, on_ok, spaces_of}
 use Rattle.bl_link.specs.Stores.{AreApart}
@@ -38,3 +41,16 @@ module _ (store : Store) (part : Part) (number : ℕ) (given : List External) (s
       ap (λ (x : Spaces). with_segments part.wasm.elements part.wasm.segments x number (with_part store part x)) s
       ∙ sym (ap (λ (o : Result (List External) LinkError). on_ok o (with_given store (number, part))) made) in
       subst (Makes r new) whole h
+
+-- a module whose bodies were taken out has them back
+pub given_back : (wasm : Module) (rest bodies : List Code) → bodies ≡ wasm.bodies → with_code (with_code wasm rest) bodies ≡ wasm
+given_back wasm rest bodies same = ap (with_code wasm) same
+
+-- what segments make of a store with the part
+pub makes_segments : {B : Type 0} (store behind new : Store) (part : Part) (number : ℕ) (spaces : Spaces) (r : Result B LinkError) (elements : List ElementSegment) (segments : List DataSegment)
+    → elements ≡ part.wasm.elements → segments ≡ part.wasm.segments → behind ≡ with_part store part spaces
+    → Makes r new (with_segments elements segments spaces number behind) → Makes r new (with_segments part.wasm.elements part.wasm.segments spaces number (with_part store part spaces))
+makes_segments store behind new part number spaces r elements segments e s b h =
+    subst (Makes r new) (ap (λ (x : List ElementSegment). with_segments x segments spaces number behind) e
+    ∙ ap (λ (x : List DataSegment). with_segments part.wasm.elements x spaces number behind) s
+    ∙ ap (with_segments part.wasm.elements part.wasm.segments spaces number) b) h

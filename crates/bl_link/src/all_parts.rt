@@ -20,7 +20,7 @@ use crate::spaces::spaces_of;
 use crate::store::{Spaces, Store};
 use crate::widths::check_parts;
 use bl_base::{List, NoMemory, Quantity};
-use bl_labels::{Labels, Marks};
+use bl_labels::Marks;
 use bl_wasm::{Code, DataSegment, ElementSegment, Exports, Linked, Module, Tree};
 use std::alloc::Global;
 use std::mem;
@@ -91,28 +91,13 @@ fn link_part(alloc: Global, store: &mut Store, number: u32, part: Part) -> Resul
 {
     let Part { name, wasm, labels } = part;
     let mut wasm = wasm.into_module();
-    link_labelled(alloc, store, number, name.as_slice(), &mut wasm, labels)
-}
-
-/// A part is linked by its name, its module and its labels as they are listed; its bodies are moved.
-fn link_labelled(
-    alloc: Global,
-    store: &mut Store,
-    number: u32,
-    name: &[u8],
-    wasm: &mut Module,
-    labels: Labels,
-) -> Result<(), LinkError>
-    requires { CanLink store.old (part_of name.now wasm.old labels) }
-    ensures { Makes result store.new (with_next (Ok store.old) (number, part_of name.now wasm.old labels)) }
-{
     match Marks::of(alloc, labels) {
-        Ok(marks) => link_module(alloc, store, number, name, wasm, &marks),
+        Ok(marks) => link_module(alloc, store, number, name.as_slice(), &mut wasm, &marks),
         Err(_) => Err(LinkError::Memory),
     }
 }
 
-/// A part is linked by its name, its module and its marks; its bodies are moved.
+/// A part is linked by its name, its module and its marks: what it defines and exports, and then its segments. Its bodies are moved.
 fn link_module(
     alloc: Global,
     store: &mut Store,
@@ -131,32 +116,15 @@ fn link_module(
     let Ok(spaces) = spaces_of(alloc, store, wasm, given.as_slice()) else {
         return Err(LinkError::Memory);
     };
-    link_given(alloc, store, number, name, wasm, marks, &spaces)
-}
-
-/// A part whose imports are given is linked: what it defines and exports, and then its segments.
-fn link_given(
-    alloc: Global,
-    store: &mut Store,
-    number: u32,
-    name: &[u8],
-    wasm: &mut Module,
-    marks: &Marks,
-    spaces: &Spaces,
-) -> Result<(), LinkError>
-    requires room { HasRoom store.old.tree (part_of name.now wasm.old marks.now) spaces.now }
-    requires apart { AreApart (λ value. value.0) (store.old.exports ++ map (exported name.now spaces.now) wasm.old.exports) }
-    ensures { Makes result store.new (with_segments_of wasm.old.elements wasm.old.segments spaces.now number (with_part_of store.old (part_of name.now wasm.old marks.now) spaces.now)) }
-{
     let bodies = mem::replace(&mut wasm.bodies, List::new(alloc));
-    match with_part(alloc, store, name, wasm, bodies, marks, spaces) {
+    match with_part(alloc, store, name, wasm, bodies, marks, &spaces) {
         Ok(()) => with_segments(
             alloc,
             store,
             number,
             wasm.elements.as_slice(),
             wasm.segments.as_slice(),
-            spaces,
+            &spaces,
         ),
         Err(_) => Err(LinkError::Memory),
     }

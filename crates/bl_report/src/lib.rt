@@ -10,4 +10,4 @@ mod text;
 mod verdicts;
 
 pub use text::{protects_report, report, summary};
-pub use verdicts::{verdicts_text, verdicts_text_of};
+pub use verdicts::verdicts_text_of;

@@ -1,35 +1,17 @@
 //! The text of the verdicts on a program and a certificate.
 ghost use Rattle.std.specs.Prelude.{◌≡◌, IfOk, option_map};
-ghost use Rattle.bl_report.specs.Verdicts.{both_line, certificate_line, leak_line, verdicts_of, verdicts_text};
+ghost use Rattle.bl_report.specs.Verdicts.{both_line, certificate_line, leak_line, verdicts_of};
 
 use crate::secrets::push_constant_time;
 use bl_base::{NoMemory, Pos, Text};
-use bl_ct::CtVerdict;
 use bl_graph::SecretChain;
-use bl_transient::FlowVerdict;
 use bl_witness::CertVerdict;
 use std::alloc::Global;
 
 /// The lines of verdicts by the rules of certificates, by the transient rules and by the label rules: whether the certificate keeps
-/// its rules, whether the program's protects pass, whether the program is constant-time, and whether it is both of these. Linear in
-/// the way of a secret. Want of memory is the only error.
-pub fn verdicts_text(
-    alloc: Global,
-    rules: &CertVerdict,
-    flow: &FlowVerdict,
-    labels: &CtVerdict,
-) -> Result<Text, NoMemory>
-    ensures { IfOk result (λ text. text ≡ verdicts_text rules.now flow.now labels.now) }
-{
-    let leak = match flow {
-        FlowVerdict::Yes(_) => None,
-        FlowVerdict::No(position) => Some(*position),
-    };
-    verdicts_text_of(alloc, rules, leak, labels.chain())
-}
-
-/// The same by the first sink that reads a transient variable, or by none where the protects pass, and by a secret chain, or by none
-/// where the program is constant-time.
+/// its rules, whether the program's protects pass, whether the program is constant-time, and whether it is both of these. `leak` is
+/// the first sink that reads a transient variable, or none where the protects pass; `chain` is a secret chain, or none where the
+/// program is constant-time. Linear in the way of a secret. Want of memory is the only error.
 pub fn verdicts_text_of(
     alloc: Global,
     rules: &CertVerdict,
