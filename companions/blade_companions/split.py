@@ -4,7 +4,7 @@ offset) are read from the shadow, and the program traps if one of them isn't kno
 them for a branch or an address may be constant-time without an edit of its source. Licence: public domain
 (CC0).
 
-    blade-split MODULE -o OUT/ [--start [EXPORT=]START ..] [--public OFFSET:SIZE ..] [--also [EXPORT=]START ..]
+    blade-split MODULE -o OUT/ [--start [EXPORT=]START ..] [--also [EXPORT=]START ..] [--public OFFSET:SIZE ..]
 
 writes OUT/shadow.wasm and OUT/MODULE. The verdict is that of the program, on both:
 
@@ -45,9 +45,10 @@ DONE, USAGE = 0, 2
 
 
 class Named(NamedTuple):
-    """A start file: its name, and the call that it asks for."""
+    """A start file: its name, the exported function that it calls, and the call."""
 
     name: str
+    export: str
     call: Call
 
 
@@ -69,20 +70,22 @@ def span(word: str) -> Tuple[int, int]:
     return int(first), int(size)
 
 
-def exported(module: Module, name: str, word: str) -> int:
+def exported(module: Module, name: str, word: str) -> str:
     """The function that a start file's word names, or the only one that is exported."""
-    functions = {told: index for (sort, told), index in module.exports.items() if sort == FUNCTION}
+    functions = [told for sort, told in module.exports if sort == FUNCTION]
     if not name and len(functions) != 1:
-        raise Bad(f"{word}: EXPORT=START says which function runs: {', '.join(list(functions)[:8])}")
+        raise Bad(f"{word}: EXPORT=START says which function runs: {', '.join(functions[:8])}")
     if name and name not in functions:
         raise Bad(f"{word}: {name} isn't exported")
-    return functions[name or next(iter(functions))]
+    return name or functions[0]
 
 
 def named(parts: Parts, word: str, public: Sequence[Tuple[int, int]]) -> Named:
     name, _, path = word.rpartition("=")
     start = read_start(read_file(path, "start").decode("utf-8", "replace"))
-    return Named(os.path.basename(path), call_of(parts, exported(parts.module, name, word), start, public))
+    export = exported(parts.module, name, word)
+    call = call_of(parts, parts.module.exports[FUNCTION, export], start, public)
+    return Named(os.path.basename(path), export, call)
 
 
 def write_split(made: Split, name: str, starts: Sequence[Named], out: str) -> None:

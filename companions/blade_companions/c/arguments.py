@@ -61,6 +61,9 @@ class Asked:
     no_assumptions: bool = False  # the compiler may assume nothing, as in units with BLADE_SECRET
     native: bool = False
     no_fail: bool = False
+    split: str = "never"  # whether public numbers are taken out of C's memory: never, auto or always
+    record: List[str] = field(default_factory=list)  # start files for that, as for counts
+    public: List[str] = field(default_factory=list)  # bytes that are public at the start, as OFFSET:SIZE
 
     def is_linked_with(self, word: str) -> bool:
         return any(word in one for one in self.links)
@@ -87,7 +90,7 @@ def setters(asked: Asked) -> Dict[str, Callable[[str], None]]:
     return {
         "-o": keep("out"), "--name": keep("name"), "--blade": keep("blade"),
         "--label": lambda value: asked.labels.extend(value.split()), "--counts": asked.counts.append,
-        "--start": keep("start"),
+        "--start": keep("start"), "--record": asked.record.append, "--public": asked.public.append,
         "--public-callers": lambda value: asked.public_callers.extend(value.split(",")),
         "--export": lambda value: asked.links.append(f"--export={value}"),
         "--memory": lambda value: setattr(asked, "pages", number("--memory", value, 256)),
@@ -99,7 +102,9 @@ def setters(asked: Asked) -> Dict[str, Callable[[str], None]]:
 SWITCHES: Dict[str, Tuple[str, object]] = {
     "--ledger": ("way", "ledger"), "--vault": ("way", "vault"), "--unlabelled": ("unlabelled", True),
     "--no-fail": ("no_fail", True), "--no-assumptions": ("no_assumptions", True),
-    "--native": ("native", True), "-v": ("verbose", True)}
+    "--native": ("native", True), "-v": ("verbose", True),
+    **{word: ("split", word.partition("=")[2] or "auto")
+       for word in ("--split", "--split=never", "--split=auto", "--split=always")}}
 
 
 def asked_by(words: Sequence[str]) -> Asked:

@@ -60,6 +60,7 @@ class FunctionWriter:
         self.copied: Dict[int, Term] = {}
         self.clearing = Clearing(self, function)
         self.code: List[Instruction] = []
+        self.own_place = self.flow.module.body_of(function.index).place
         self.place = -1  # of the instruction that is written, in the module's file
 
     # Locals.
@@ -185,7 +186,7 @@ class FunctionWriter:
         for at, step in enumerate(self.function.steps):
             self.step(Place(self.function.index, at), step)
         kind = self.signatures.widened(self.function.type, self.function.index)
-        return kind, Body(self.types[len(kind.params) :], self.code)
+        return kind, Body(self.types[len(kind.params) :], self.code, self.own_place)
 
     def step(self, place: Place, step: Step) -> None:
         code = step.ins.code

@@ -58,6 +58,7 @@ class Body:
 
     locals: List[int]
     code: List[Instruction]
+    place: int = -1  # where its locals begin, in the file that was read
 
 
 @dataclass
@@ -208,7 +209,7 @@ def body_of(module: Module, start: int, end: int) -> Body:
                 "functions aren't split"
             )
         code.append(one)
-    return Body(kinds, code)
+    return Body(kinds, code, start)
 
 
 def bounded(counted: Sequence[Tuple[int, int]]) -> Sequence[Tuple[int, int]]:
@@ -236,7 +237,7 @@ def written(bodies: Sequence[Body], places: Places, code: int = 0) -> bytes:
     parts, at = [leb(len(bodies))], len(leb(len(bodies)))
     for body in bodies:
         inside = locals_bytes(body.locals)
-        spots = []
+        spots = [(0, body.place)]
         pieces = [inside]
         place = len(inside)
         for one in body.code:
