@@ -4,7 +4,8 @@ offset) are read from the shadow, and the program traps if one of them isn't kno
 them for a branch or an address may be constant-time without an edit of its source. Licence: public domain
 (CC0).
 
-    blade-split MODULE -o OUT/ [--start [EXPORT=]START ..] [--also [EXPORT=]START ..] [--public OFFSET:SIZE ..]
+    blade-split MODULE -o OUT/ [--start [EXPORT=]START ..] [--also [EXPORT=]START ..]
+                [--public OFFSET:SIZE ..]
 
 writes OUT/shadow.wasm and OUT/MODULE. The verdict is that of the program, on both:
 
@@ -17,7 +18,10 @@ writes OUT/shadow.wasm and OUT/MODULE. The verdict is that of the program, on bo
     --public OFFSET:SIZE     these bytes of C's memory are public at the start: those of start files, or else
                              the module's own
 
-At the start the shadow knows C's constants (segments .rodata), what --public names, and zeros that a recorded
+    blade-split --trap IMAGE EXPORT START OUT/shadow.wasm OUT/MODULE
+
+says by its line of C where a run of the hardened image trapped. An instance that trapped lets no further call
+in. At the start the shadow knows C's constants (segments .rodata), what --public names, and zeros that a recorded
 run read before any store; no other data, since a key may be embedded there. The report lists all of this.
 
 It ends with 0; 2 for words that it doesn't know; 3 for files that it can't read, write or split."""
@@ -28,7 +32,10 @@ import os
 import sys
 from typing import NamedTuple, Sequence, Tuple
 
+from .c.lines import Lines
 from .ending import ended
+from .explain import functions_of
+from .formats.image import image_at
 from .formats.module import FUNCTION, Module, read_module
 from .formats.reading import Bad, read_file
 from .formats.running import read_start
@@ -39,6 +46,7 @@ from .splitting.profile import Call, call_of
 from .splitting.report import report_of
 from .splitting.shadow import NAME
 from .splitting.starts import split_start
+from .splitting.trapping import trapped
 from .writing import write_file
 
 DONE, USAGE = 0, 2
@@ -107,10 +115,28 @@ def refuse_same(out: str, read: Sequence[str], made: Sequence[str]) -> None:
         raise Bad("two start files have one name")
 
 
+def tell_trap(words: Sequence[str]) -> int:
+    if len(words) < 4:
+        print(__doc__, file=sys.stderr)
+        return USAGE
+    path, export, start, *modules = words
+    image = image_at(path)
+    functions, differ = functions_of(image, modules)
+    if differ:
+        raise Bad(f"{path} wasn't made of these modules: {differ[0]}")
+    if export not in image.entries:
+        raise Bad(f"{export} isn't exported")
+    given = read_start(read_file(start, "start").decode("utf-8", "replace"))
+    say(trapped(image, Lines(functions), export, given))
+    return DONE
+
+
 def run(words: Sequence[str]) -> int:
     if not words or list(words) in (["--help"], ["-h"]):
         print(__doc__, file=sys.stdout if words else sys.stderr)
         return DONE if words else USAGE
+    if words[0] == "--trap":
+        return tell_trap(words[1:])
     asked = words_of(words)
     module = read_module(asked.module)
     parts, public = whole_parts_of(module), [span(word) for word in asked.public]

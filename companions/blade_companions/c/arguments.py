@@ -103,8 +103,7 @@ SWITCHES: Dict[str, Tuple[str, object]] = {
     "--ledger": ("way", "ledger"), "--vault": ("way", "vault"), "--unlabelled": ("unlabelled", True),
     "--no-fail": ("no_fail", True), "--no-assumptions": ("no_assumptions", True),
     "--native": ("native", True), "-v": ("verbose", True),
-    **{word: ("split", word.partition("=")[2] or "auto")
-       for word in ("--split", "--split=never", "--split=auto", "--split=always")}}
+    "--split": ("split", "auto")}
 
 
 def asked_by(words: Sequence[str]) -> Asked:
@@ -126,6 +125,8 @@ def asked_by(words: Sequence[str]) -> Asked:
             values[name](value)
         elif word in SWITCHES:
             setattr(asked, *SWITCHES[word])
+        elif name == "--split":
+            asked.split = value
         else:
             plain(asked, word)
     refuse_forbidden(asked.flags + asked.links)

@@ -3,6 +3,7 @@ kept. Licence: public domain (CC0)."""
 from __future__ import annotations
 
 import os
+import sys
 from dataclasses import dataclass
 from typing import TYPE_CHECKING, List, Optional, Sequence
 
@@ -27,6 +28,7 @@ if TYPE_CHECKING:
 
 NEVER, AUTO, ALWAYS = "never", "auto", "always"
 REPORT = "split.txt"
+STEPS = "4000000000"  # the most of a run that is compared
 COUNTED = 2_000_000  # the most commands of a run whose cost is told
 HINT = (
     "note: a public number that passes through the secret memory is secret there; --split keeps such numbers "
@@ -57,6 +59,12 @@ def refuse_words(asked: Asked) -> None:
         for word, given in (("--record", asked.record), ("--public", asked.public)):
             if given:
                 raise Stop(USAGE, f"blade-cc: error: {word} goes with --split")
+    elif asked.native:
+        raise Stop(
+            USAGE,
+            "blade-cc: error: --native with --split: a program that writes to C's memory would have to "
+            "tell the shadow, and blade-native doesn't yet",
+        )
     elif asked.way:
         raise Stop(
             USAGE,
@@ -87,7 +95,12 @@ def tried(driver: "Driver", plain: Outcome) -> Outcome:
     module = read_module(plain.modules[-1])
     try:
         starts = recorded(asked, module)
-        made = split(module, [one.call for one in starts], [span(word) for word in asked.public], say)
+        made = split(
+            module,
+            [one.call for one in starts],
+            [span(word) for word in asked.public],
+            lambda line: say(f"blade-cc: note: {line}", sys.stderr),
+        )
     except Bad as bad:
         return given_up(driver, plain, str(bad))
     driver.runner.show(
@@ -101,7 +114,7 @@ def tried(driver: "Driver", plain: Outcome) -> Outcome:
         ]
     )
     driver.put(REPORT, ("\n".join(report_of(made, bool(starts))) + "\n").encode())
-    if not made.kinds.reads_shadow:
+    if not made.kinds.changes:
         return given_up(
             driver, plain, f"no public number that passes through the memory would help ({REPORT})"
         )
@@ -111,7 +124,7 @@ def tried(driver: "Driver", plain: Outcome) -> Outcome:
 def given_up(driver: "Driver", plain: Outcome, why: str) -> Outcome:
     if driver.asked.split == ALWAYS:
         raise Stop(REFUSED, f"blade-cc: error: --split: {why}")
-    say(f"blade-cc: note: --split: {why}")
+    say(f"blade-cc: note: --split: {why}", sys.stderr)
     return plain
 
 
@@ -134,12 +147,16 @@ def hardened(driver: "Driver", plain: Outcome, made: Split, starts: Sequence[Nam
     modules = [f"{driver.aside}/{NAME}.wasm", f"{driver.aside}/{driver.module}.wasm"]
     written_to(modules[0], made.shadow)
     written_to(modules[1], made.made)
-    before, why = driver.asked.counts, ""
+    before, why, outcome = driver.asked.counts, "", plain
     try:
         driver.asked.counts = counted_starts(driver, made, starts, f"{room}/start")
         outcome = Outcome(modules, *driver.harden(modules))
         driver.refuse_public_arguments(modules)
-        why = "" if is_yes(outcome.report) else f"after splitting the verdict is still no ({REPORT} says why)"
+        why = (
+            f"after splitting the verdict is still no ({REPORT} says why)"
+            if not is_yes(outcome.report)
+            else differs(driver, f"{room}/plain-{driver.module}.img", starts, f"{room}/start")
+        )
     except Stop as stop:
         why = "\n".join(stop.lines)
     if why:
@@ -189,6 +206,36 @@ def cost_of(driver: "Driver", plain: str, one: Named, start: str) -> Optional[st
             return None
     (a, b), (c, d) = ((one["commands"], one["protects"]) for one in found)
     return f"commands {a:,} to {c:,} ({c / a:.2f} times), protects {b:,} to {d:,}"
+
+
+def differs(driver: "Driver", plain: str, starts: Sequence[Named], base: str) -> str:
+    """Whether a recorded run ends otherwise than that of the module as it was: by what it returns, and by all
+    of C's memory."""
+    for number, one in enumerate(starts):
+        written_to(f"{base}-plain", plain_start(one).encode())
+        entry = f"{driver.module}/{one.export}"
+        ends = [
+            driver.blade("run", image, entry, start, "--steps", STEPS).out
+            for image, start in (
+                (plain, f"{base}-plain"),
+                (f"{driver.aside}/{driver.module}.img", f"{base}{number}"),
+            )
+        ]
+        if of_memory(ends[0], 0) != of_memory(ends[1], 1):
+            return f"the run from {one.name} doesn't end as that of the module as it was"
+    return ""
+
+
+def of_memory(outcome: str, memory: int) -> List[str]:
+    """What an outcome says, with nothing but one memory, whose number is left out."""
+    found = []
+    for line in outcome.splitlines():
+        words = line.split()
+        if words[:1] not in (["memory"], ["row"]):
+            found.append(line)
+        elif words[1:2] == [str(memory)]:
+            found.append(" ".join([words[0], *words[2:]]))
+    return found
 
 
 def plain_start(one: Named) -> str:

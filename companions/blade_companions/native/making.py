@@ -10,6 +10,7 @@ import tempfile
 from typing import Iterable, List, NamedTuple, Optional
 
 from ..check import refused_answers
+from ..formats.image import read_image as image_of
 from ..formats.reading import Bad, read_file
 from ..printing import say
 from ..writing import write_file
@@ -22,6 +23,7 @@ from .stack import frames_in, most_bytes
 from .translation import translate
 
 DONE, NO = 0, 1
+FORGET = "shadow/forget"  # what the shadow of split modules exports
 MADE_BY = b"/* Made by blade-native"  # how NAME.c and NAME.h begin
 MOST_FINDINGS = 20  # are printed
 YES = "blade verify says yes to all four questions"
@@ -36,6 +38,9 @@ class Image(NamedTuple):
     @staticmethod
     def at(path: str, modules: Iterable[str] = ()) -> Image:
         data = read_file(path, "image")
+        if FORGET in image_of(data).entries:
+            raise Bad(f"{path} is of split modules: what a program writes to C's memory would still be known of what "
+                      "was there before, so blade-native doesn't take it")
         return Image(module_of(data), Origin(data, list(modules)))
 
 

@@ -69,6 +69,7 @@ class Kinds:
         self.need(sink.node for sink in self.open_sinks())
         for place in self.checked:
             self.need(self.stored(place))
+        self.changes = bool(self.checked or self.needed)  # else the module stays as it is
         self.reads_shadow = bool(self.checked or self.needed_loads())  # else nothing has to be written there
 
     def has_public_address(self, place: Place) -> bool:

@@ -50,7 +50,7 @@ class Places:
 
 def report_of(split: Split, has_runs: bool) -> List[str]:
     kinds, flow, places = split.kinds, split.kinds.flow, Places(split.kinds)
-    if not kinds.reads_shadow and not split.recorded.leaks:
+    if not kinds.changes and not split.recorded.leaks:
         return ["no public number passes through the memory: the module stays as it is"]
     both = [place for place in kinds.needed_loads() if place not in kinds.checked]
     stores = Counter(kinds.of(value) for value in flow.stores.values())
