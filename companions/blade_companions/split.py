@@ -20,8 +20,10 @@ writes OUT/shadow.wasm and OUT/MODULE. The verdict is that of the program, on bo
 
     blade-split --trap IMAGE EXPORT START OUT/shadow.wasm OUT/MODULE
 
-says by its line of C where a run of the hardened image trapped. An instance that trapped lets no further call
-in. At the start the shadow knows C's constants (segments .rodata), what --public names, and zeros that a recorded
+says by its line of C where a run of the hardened image trapped. An instance that trapped lets no further
+call in.
+
+At the start the shadow knows C's constants (segments .rodata), what --public names, and zeros that a recorded
 run read before any store; no other data, since a key may be embedded there. The report lists all of this.
 
 It ends with 0; 2 for words that it doesn't know; 3 for files that it can't read, write or split."""

@@ -1,5 +1,5 @@
 """The algebra of known bits: whatever the unknown bits of the operands are, the result has the bits that are
-said to be known. For numbers of 4 bits all cases are tried, for 8, 32 and 64 many at random. The same rules
+said to be known. For numbers of 2 bits all cases are tried, for 8, 32 and 64 many at random. The same rules
 as instructions and as Python text give the same. Licence: public domain (CC0)."""
 from __future__ import annotations
 
@@ -96,20 +96,20 @@ class Algebra(unittest.TestCase):
             ]
         )
 
-    def test_all_cases_of_4_bits(self) -> None:
-        one = list(itertools.product(range(16), repeat=2))
+    def test_all_cases_of_2_bits(self) -> None:
+        one = list(itertools.product(range(4), repeat=2))
         for code in SMALL:
             if code != op.SELECT:
-                self.hold(code, 4, itertools.product(one, repeat=len(widths(code, 4))))
+                self.hold(code, 2, itertools.product(one, repeat=len(widths(code, 2))))
 
     def test_8_bits(self) -> None:
         for code in SMALL:
-            self.hold(code, 8, self.at_random(code, 8, 3000))
+            self.hold(code, 8, self.at_random(code, 8, 1000))
 
     def test_32_and_64_bits(self) -> None:
         for code in RULED:
             for bits in (32, 64) if code == op.SELECT else (0,):
-                self.hold(code, bits, self.at_random(code, bits, 1500))
+                self.hold(code, bits, self.at_random(code, bits, 500))
 
     def test_constants_are_folded_alike(self) -> None:
         """Where an operand is wholly known its mask is a constant, and the terms are shorter: they say the

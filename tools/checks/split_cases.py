@@ -1,16 +1,20 @@
-"""What tools/checks/cc asks of blade-cc --split and blade-split: the worked routines without a ledger say yes, with
-their published vectors; what leaks stays a no, or traps at its line of C. Licence: public domain (CC0)."""
+"""What tools/checks/cc asks of blade-cc --split and blade-split: the worked routines without a ledger say yes,
+with their published vectors; what leaks stays a no, or traps at its line of C. Licence: public domain
+(CC0)."""
 from __future__ import annotations
 
 import json
 import os
 import subprocess
+from unittest import mock
 from typing import Any, Dict, List, NamedTuple, Optional, Sequence, Tuple
 
+import known_bits
 import routines as worked
 from harness import COMPANIONS, TOP, Check
 from blade_companions.formats.labels import entries_of
 from blade_companions.formats.module import FUNCTION, read_module
+from blade_companions.splitting import knowledge
 
 CC, SPLIT, EXPLAIN = (f"{COMPANIONS}/blade-{name}" for name in ("cc", "split", "explain"))
 AT = worked.AT
@@ -45,7 +49,8 @@ LEAKY = [
     Leaky(
         "power",
         7,
-        HEAD + "__attribute__((noinline)) static u32 times(u32 a, u32 b) { return (a * b ^ a >> 5) & 0xFFFFFF; }\n"
+        HEAD
+        + "__attribute__((noinline)) static u32 times(u32 a, u32 b) { return (a * b ^ a >> 5) & 0xFFFFFF; }\n"
         "void power(u8 *out, const u8 *key) {\n    u32 r = 1, b = out[0] | out[1] << 8;\n"
         "    for (int i = 0; i < 8; i++) {\n        if (key[i] & 128) r = times(r, b);\n"
         "        r = times(r, r);\n    }\n    for (int i = 0; i < 3; i++) out[i] = r >> 8 * i;\n}\n",
@@ -281,7 +286,7 @@ def other(splits: Splits, size: int, name: str, data: bytes, modules: Sequence[s
     check = splits.check
     start = splits.start(f"{name}.start", [AT, AT + 128, size], (AT + 128, data))
     after = splits.start(f"{name}.split", [AT, AT + 128, size], (AT + 128, data), memory=1)
-    plain = splits.rows("piece/build/plain-piece.img", "piece/two", start, 0)
+    plain = splits.rows("piece/build/plain/piece.img", "piece/two", start, 0)
     if size <= 4:
         found = splits.rows("piece/piece.img", "piece/two", after, 1)
         check.say(f"{size} bytes: C's memory as without a split", plain and plain == found, (plain, found))
@@ -345,6 +350,14 @@ def words(check: Check) -> None:
     )
 
 
+def algebra(check: Check) -> None:
+    """The known bits of each operator, in all cases of 4 bits; a mask that is too wide is found."""
+    for name in known_bits.MEANING:
+        check.say(f"known bits of {name}, all cases of 4 bits", known_bits.is_right(name, 4, check.folder))
+    with mock.patch.object(knowledge, "low_run", lambda mask: knowledge.ones(mask.bits)):
+        check.say("a mask that is too wide", not known_bits.is_right("add", 4, check.folder))
+
+
 def splits(check: Check) -> None:
-    for one in (routines, controls, made, words):
+    for one in (algebra, routines, controls, made, words):
         one(check)

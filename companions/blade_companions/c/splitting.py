@@ -142,8 +142,9 @@ def recorded(asked: Asked, module: Module) -> List[Named]:
 def hardened(driver: "Driver", plain: Outcome, made: Split, starts: Sequence[Named]) -> Outcome:
     """Hardens the split modules in the place of the plain ones, and puts those back if the verdict is no."""
     room, kept = f"{driver.folder}/build", [f"{driver.module}.{end}" for end in ("wasm", "img", "json")]
+    os.makedirs(f"{room}/plain", exist_ok=True)
     for name in kept:
-        os.replace(f"{driver.aside}/{name}", f"{room}/plain-{name}")
+        os.replace(f"{driver.aside}/{name}", f"{room}/plain/{name}")
     modules = [f"{driver.aside}/{NAME}.wasm", f"{driver.aside}/{driver.module}.wasm"]
     written_to(modules[0], made.shadow)
     written_to(modules[1], made.made)
@@ -155,7 +156,7 @@ def hardened(driver: "Driver", plain: Outcome, made: Split, starts: Sequence[Nam
         why = (
             f"after splitting the verdict is still no ({REPORT} says why)"
             if not is_yes(outcome.report)
-            else differs(driver, f"{room}/plain-{driver.module}.img", starts, f"{room}/start")
+            else differs(driver, f"{room}/plain/{driver.module}.img", starts, f"{room}/start")
         )
     except Stop as stop:
         why = "\n".join(stop.lines)
@@ -163,9 +164,9 @@ def hardened(driver: "Driver", plain: Outcome, made: Split, starts: Sequence[Nam
         driver.asked.counts = before
         os.remove(modules[0])
         for name in kept:
-            os.replace(f"{room}/plain-{name}", f"{driver.aside}/{name}")
+            os.replace(f"{room}/plain/{name}", f"{driver.aside}/{name}")
         return given_up(driver, plain, why)
-    outcome.told = told(driver, made, starts, f"{room}/plain-{driver.module}.img")
+    outcome.told = told(driver, made, starts, f"{room}/plain/{driver.module}.img")
     return outcome
 
 

@@ -1,5 +1,5 @@
-"""Where a run of split modules trapped: the line of C whose public number wasn't known. Licence: public domain
-(CC0)."""
+"""Where a run of split modules trapped: the line of C whose public number wasn't known. Licence: public
+domain (CC0)."""
 from __future__ import annotations
 
 from typing import List, Optional, Sequence, Tuple
