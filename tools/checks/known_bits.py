@@ -1,7 +1,7 @@
 #!/usr/bin/env python3
 """Tries the algebra of known bits exhaustively: for each operator, for each value and each mask of its
-operands, what is said to be known has to be so. The rules are those of blade_companions/splitting/knowledge.py,
-as C; what operators mean is written here once more. tools/checks/cc does this for numbers of 4 bits.
+operands, what is said to be known has to be so. The rules are those of splitting/knowledge.py, as C; what
+operators mean is written here once more. tools/checks/cc does this for numbers of 4 bits.
 Licence: public domain (CC0).
 
 usage: known_bits.py BITS [NAME..]

@@ -1,4 +1,4 @@
-"""What tools/checks/cc asks of blade-cc --split and blade-split: the worked routines without a ledger say yes,
+"""What tools/checks/cc asks of blade-cc --split and blade-split: worked routines without a ledger say yes,
 with their published vectors; what leaks stays a no, or traps at its line of C. Licence: public domain
 (CC0)."""
 from __future__ import annotations
