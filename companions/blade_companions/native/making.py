@@ -39,8 +39,8 @@ class Image(NamedTuple):
     def at(path: str, modules: Iterable[str] = ()) -> Image:
         data = read_file(path, "image")
         if FORGET in image_of(data).entries:
-            raise Bad(f"{path} is of split modules: if a program writes to C's memory, the shadow would still "
-                      "know what was there before, so blade-native doesn't take it")
+            raise Bad(f"{path} is of split modules: if a program writes to C's memory, the shadow would "
+                      "still know what was there before, so blade-native doesn't take it")
         return Image(module_of(data), Origin(data, list(modules)))
 
 
