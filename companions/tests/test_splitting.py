@@ -383,6 +383,10 @@ class Refused(unittest.TestCase):
         )
         self.refused(imported, "other.g is imported, a function")
 
+    def test_code_that_is_not_valid(self) -> None:
+        with self.assertRaisesRegex(Bad, "its code isn't valid"):
+            split(module([[i("drop"), i("const", 1)]]), [])
+
     def test_several_results(self) -> None:
         plain = labelled().data
         kind = section(1, vector([b"\x60" + sized(bytes([I32])) + sized(bytes([I32]))]))

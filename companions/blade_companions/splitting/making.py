@@ -91,7 +91,17 @@ def split(
     """The shadow and the split module."""
     if module.name == NAME:
         raise Bad(f"the module has the shadow's name, {NAME}")
-    parts = whole_parts_of(module)
+    try:
+        return split_parts(whole_parts_of(module), calls, public, told)
+    except (IndexError, KeyError) as fault:
+        raise Bad(f"{module.name}: its code isn't valid: blade harden says where ({fault})") from None
+
+
+def split_parts(
+    parts: Parts, calls: Sequence[Call], public: Sequence[Tuple[int, int]], told: Callable[[str], None]
+) -> Split:
+    """The same of a module that may be split."""
+    module = parts.module
     flow = Flow(parts)
     if not secret_memory(flow):
         raise Bad(
