@@ -164,7 +164,7 @@ class Algebra(unittest.TestCase):
 class Mutants(unittest.TestCase):
     """Rules that say too much are found out."""
 
-    def refused(self, code: int, rule) -> None:
+    def refused(self, code: int, rule: knowledge.Rule) -> None:
         kept = knowledge.RULES[op.OPERATORS[code].word]
         knowledge.RULES[op.OPERATORS[code].word] = rule
         try:
