@@ -19,7 +19,8 @@ ROOM = 128  # from here on a program stores
 def i(name: str, *args: int) -> Instruction:
     """An instruction by its name; an operator of 32 bits and what has to do with locals by its short one."""
     words = {"get": "local.get", "set": "local.set", "tee": "local.tee", "const": "i32.const"}
-    code = op.NAMES.get(words.get(name, name)) or op.NAMES[f"i32.{name}"]
+    word = words.get(name, name)
+    code = op.NAMES[word if word in op.NAMES else f"i32.{name}"]
     if code in op.ACCESSES:
         args = (0, args[0] if args else 0)
     if code in op.OPENING:

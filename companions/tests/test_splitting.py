@@ -12,7 +12,16 @@ from blade_companions.formats.labels import Entry, entries_of, is_changed, with_
 from blade_companions.formats.module import FUNCTION, MEMORY, Module, module_of
 from blade_companions.formats.places import section_of
 from blade_companions.formats.reading import Bad
-from blade_companions.splitting import clearing, codes as op, functions, kinds, knowledge, making, shadow
+from blade_companions.splitting import (
+    clearing,
+    codes as op,
+    functions,
+    kinds,
+    knowledge,
+    making,
+    running,
+    shadow,
+)
 from blade_companions.splitting.making import WHY, first_known, refuse_lost_labels, split
 from blade_companions.splitting.numerics import Trap
 from blade_companions.splitting.parts import Data, Parts, parts_of
@@ -118,6 +127,16 @@ class Programs(unittest.TestCase):
     def test_at_random(self) -> None:
         self.assertGreater(at_random(self, range(100)), 150)
 
+    def test_a_run_without_an_end(self) -> None:
+        """A recorded run is left after so many turns of loops, and what it showed is used."""
+        program = module(
+            [[*looked_up(load(ROOM)), i("drop"), i("loop"), i("br", 0), i("end"), i("unreachable")]]
+        )
+        told: List[str] = []
+        with mock.patch.object(running, "TURNS", 1000):
+            self.assertTrue(split(program, [small(0)], (), told.append).kinds.checked)
+        self.assertIn("a recorded run ends early: it takes too long", told)
+
     def test_several_recorded_runs(self) -> None:
         """A second run goes the other way: what it needs is known to be unknown, so the verdict is no, and
         nothing traps."""
@@ -199,8 +218,13 @@ class Mutants(unittest.TestCase):
         # Zeros are so at the start, unless a start file gives other bytes and the shadow doesn't forget.
         with mock.patch.object(making, "first_known", lambda *_: [making.First(0, bytes(65536), "zeros")]):
             made = split_start
-            self.caught(sys.modules[__name__], "split_start", lambda call, base: "\n".join(
-                line for line in made(call, base).splitlines() if not line.endswith("00")))
+            self.caught(
+                sys.modules[__name__],
+                "split_start",
+                lambda call, base: "\n".join(
+                    line for line in made(call, base).splitlines() if not line.endswith("00")
+                ),
+            )
 
 
 CONSTANT = [store(ROOM, [i("const", 3)]), looked_up(load(ROOM))]

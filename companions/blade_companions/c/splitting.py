@@ -124,7 +124,8 @@ def tried(driver: "Driver", plain: Outcome) -> Outcome:
 def given_up(driver: "Driver", plain: Outcome, why: str) -> Outcome:
     if driver.asked.split == ALWAYS:
         raise Stop(REFUSED, f"blade-cc: error: --split: {why}")
-    say(f"blade-cc: note: --split: {why}", sys.stderr)
+    for line in why.split("\n"):
+        say(f"blade-cc: note: --split: {line}", sys.stderr)
     return plain
 
 

@@ -329,7 +329,7 @@ class Recorder:
         try:
             instance.call(call.function, [*call.arguments, *more])
         except Trap as trap:
-            self.told(f"a recorded run traps: {trap}")
+            self.told(f"a recorded run ends early: {trap}")
 
     def record(self) -> Recorded:
         """Each start is run three times: for the stores that feed loads; for the loads and stores that are
