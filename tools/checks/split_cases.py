@@ -7,7 +7,7 @@ import json
 import os
 import subprocess
 from unittest import mock
-from typing import Any, Dict, List, NamedTuple, Optional, Sequence, Tuple
+from typing import Dict, NamedTuple, Sequence, Tuple
 
 import known_bits
 import routines as worked
@@ -18,6 +18,7 @@ from blade_companions.splitting import knowledge
 
 CC, SPLIT, EXPLAIN = (f"{COMPANIONS}/blade-{name}" for name in ("cc", "split", "explain"))
 AT = worked.AT
+PIECES = ["piece/shadow.wasm", "piece/piece.wasm"]
 SECRET = ["--label", "secret-memory 0"]
 HEAD = "typedef unsigned char u8;\ntypedef unsigned u32;\n"
 
@@ -200,84 +201,43 @@ def trapped(splits: Splits, one: Leaky, contents: Sequence[Tuple[int, bytes]]) -
 
 
 def made(check: Check) -> None:
-    """A context: start files of two exports, other lengths, what the report has, and lines of C in what other
-    tools tell of split modules."""
+    """A context: start files of two exports, other lengths, what the report has, and what comes after it."""
     splits = Splits(check)
     check.write("piece.c", PIECE)
     data = bytes(range(0x80, 0x90))
-    short, long = (
-        splits.start(f"{name}.start", [AT, AT + 128, size], (AT + 128, data))
-        for name, size in (("short", 4), ("long", 8))
-    )
-    begin = splits.start("begin.start", [AT])
-    labels = ["--label", "secret-memory 0 public-result two 0"]
-    words = ["-O1", *labels, "piece.c", "-o", "piece/"]
-    splits.cc(
-        "no recorded run for the second part",
-        0,
-        "--split",
-        "--record",
-        f"two={short}",
-        "--record",
-        f"begin={begin}",
-        *words,
-        told="after splitting: ",
-    )
+    both = [splits.start(f"{name}.start", [AT, AT + 128, size], (AT + 128, data))
+            for name, size in (("short", 4), ("long", 8))]
+    short, long = (["--record", f"two={one}"] for one in both)
+    begin = ["--record", f"begin={splits.start('begin.start', [AT])}"]
+    words = ["-O1", "--label", "secret-memory 0 public-result two 0", "piece.c", "-o", "piece/"]
+    splits.cc("no run for the second part", 0, "--split", *short, *begin, *words, told="after splitting: ")
     report = check.read("piece/split.txt").decode()
-    check.say(
-        "the report has code that no run reached, by lines",
-        "no recorded run came to" in report and "piece.c:8 " in report,
-        report,
-    )
-    check.say(
-        "and what is known at the start, and the cost",
-        "known at the start" in report and "cost of short.start: commands" in report,
-        report,
-    )
-    modules = ["piece/shadow.wasm", "piece/piece.wasm"]
+    check.say("the report has code that no run reached, by lines",
+              "no recorded run came to" in report and "piece.c:8 " in report, report)
+    check.say("and what is known at the start, and the cost",
+              "known at the start" in report and "cost of short.start: commands" in report, report)
     for size, name in ((3, "three"), (0, "none"), (8, "eight")):
-        other(splits, size, name, data, modules)
-    found = json.loads(check.read("piece/problems.json"))
-    check.say(
-        "and says of which modules",
-        [os.path.basename(one) for one in found["modules"]] == ["shadow.wasm", "piece.wasm"],
-        found["modules"],
-    )
-    entries, module = entries_of(read_module(check.path("piece/piece.wasm"))), read_module(
-        check.path("piece/piece.wasm")
-    )
-    check.say(
-        "labels of the original are there, of the exported function, too",
-        {("secret-memory", (0,)), ("public-result", (module.exports[FUNCTION, "two"], 0))} <= set(entries),
-        entries,
-    )
-    done = splits.run(EXPLAIN, "piece/piece.img", *modules, "--page", "piece/page.html")
-    check.say(
-        "blade-explain takes split modules, with a page",
-        done.returncode == 0 and "piece.c" in check.read("piece/page.html").decode(),
-        done.stdout + done.stderr,
-    )
+        other(splits, size, name, data, PIECES)
+    by_other_tools(splits)
     splits.cc("without --split nothing of it stays", 1, *words, told="--split keeps such numbers")
-    check.say(
-        "no shadow",
-        not os.path.exists(check.path("piece/shadow.wasm"))
-        and not os.path.exists(check.path("piece/split.txt")),
-    )
-    splits.cc(
-        "both parts recorded",
-        1,
-        "--split",
-        "--record",
-        f"two={short}",
-        "--record",
-        f"two={long}",
-        *words,
-        told="constant-time no",
-    )
-    check.say(
-        "and the line that takes a secret",
-        "piece.c:8 " in check.read("piece/split.txt").decode().partition("it was loaded by")[2],
-    )
+    left = [name for name in ("shadow.wasm", "split.txt") if os.path.exists(check.path(f"piece/{name}"))]
+    check.say("no shadow", not left, left)
+    splits.cc("both parts recorded", 1, "--split", *short, *long, *words, told="constant-time no")
+    causes = check.read("piece/split.txt").decode().partition("it was loaded by")[2]
+    check.say("and the line that takes a secret", "piece.c:8 " in causes, causes)
+
+
+def by_other_tools(splits: Splits) -> None:
+    """What other tools tell of split modules."""
+    check, module = splits.check, read_module(splits.check.path("piece/piece.wasm"))
+    found = [os.path.basename(one) for one in json.loads(check.read("piece/problems.json"))["modules"]]
+    check.say("problems.json says of which modules", found == ["shadow.wasm", "piece.wasm"], found)
+    entries = set(entries_of(module))
+    wanted = {("secret-memory", (0,)), ("public-result", (module.exports[FUNCTION, "two"], 0))}
+    check.say("labels of the original are there, of the exported function, too", wanted <= entries, entries)
+    done = splits.run(EXPLAIN, "piece/piece.img", *PIECES, "--page", "piece/page.html")
+    check.say("blade-explain takes split modules, with a page", done.returncode == 0
+              and "piece.c" in check.read("piece/page.html").decode(), done.stdout + done.stderr)
 
 
 def other(splits: Splits, size: int, name: str, data: bytes, modules: Sequence[str]) -> None:
@@ -305,49 +265,33 @@ def words(check: Check) -> None:
     check.write("none.c", HEAD + "u32 none(u32 *p) { return p[0] ? p[1] : 3; }\n")
     start = splits.start("none.start", [AT], (AT, bytes(range(1, 9))))
     for name, status, more, told in (
-        ("--split=maybe", 2, ["--split=maybe"], "--split=maybe"),
-        ("a ledger and a split", 2, ["--split", "--ledger"], "give one of them"),
-        ("--record without a split", 2, ["--record", start], "--record goes with --split"),
-        ("native code of a split", 2, ["--split", "--native"], "--native"),
-        ("a public range that is none", 1, ["--split", "--public", "12"], "not OFFSET:SIZE"),
-        ("a start file of another export", 1, ["--split", "--record", f"other={start}"], "isn't exported"),
-        ("always, of what is no split", 6, ["--split=always", "--record", start], "--split: "),
-        ("never", 1, ["--split=never"], "constant-time no"),
-    ):
+            ("--split=maybe", 2, ["--split=maybe"], "--split=maybe"),
+            ("a ledger and a split", 2, ["--split", "--ledger"], "give one of them"),
+            ("--record without a split", 2, ["--record", start], "--record goes with --split"),
+            ("native code of a split", 2, ["--split", "--native"], "--native"),
+            ("a public range that is none", 1, ["--split", "--public", "12"], "not OFFSET:SIZE"),
+            ("a start of another export", 1, ["--split", "--record", f"other={start}"], "isn't exported"),
+            ("always, of what is no split", 6, ["--split=always", "--record", start], "--split: "),
+            ("a name that the shadow has", 1, ["--split", "--name", "shadow"], "the shadow's name"),
+            ("never", 1, ["--split=never"], "constant-time no")):
         splits.cc(name, status, *more, *SECRET, "none.c", "-o", "none/", told=told)
-    splits.cc(
-        "a name that the shadow has",
-        1,
-        "--split",
-        "--name",
-        "shadow",
-        *SECRET,
-        "none.c",
-        "-o",
-        "named/",
-        told="the shadow's name",
-    )
-    done = splits.run(SPLIT, "none/refused/none.wasm", "-o", "none/refused")
-    check.say(
-        "blade-split doesn't overwrite what it reads",
-        done.returncode == 3 and "would be overwritten" in done.stderr,
-        done.stderr,
-    )
-    done = splits.run(SPLIT, "none/refused/none.wasm", "-o", "parts/", "--also", start, "--public", f"{AT}:8")
-    check.say(
-        "--also writes a start file",
-        done.returncode == 0 and f"arg {AT}" in check.read("parts/none.start").decode(),
-        done.stderr,
-    )
-    image: List[Optional[Any]] = ["parts/i.img", "parts/i.json", "parts/shadow.wasm", "parts/none.wasm"]
-    done = check.blade("harden", *map(str, image))
+    alone(splits, start)
+
+
+def alone(splits: Splits, start: str) -> None:
+    """blade-split by itself."""
+    check, module = splits.check, "none/refused/none.wasm"
+    done = splits.run(SPLIT, module, "-o", "none/refused")
+    check.say("blade-split doesn't overwrite what it reads", done.returncode == 3
+              and "would be overwritten" in done.stderr, done.stderr)
+    done = splits.run(SPLIT, module, "-o", "parts/", "--also", start, "--public", f"{AT}:8")
+    check.say("--also writes a start file", done.returncode == 0
+              and f"arg {AT}" in check.read("parts/none.start").decode(), done.stderr)
+    done = check.blade("harden", "parts/i.img", "parts/i.json", "parts/shadow.wasm", "parts/none.wasm")
     check.say("the verdict is that of harden", done.stdout.endswith("constant-time yes\n"), done.stdout)
     done = splits.run(f"{COMPANIONS}/blade-native", "parts/i.img", "-o", "parts/none.c")
-    check.say(
-        "blade-native doesn't take split modules",
-        done.returncode == 3 and "split modules" in done.stderr,
-        done.stderr,
-    )
+    check.say("blade-native doesn't take split modules", done.returncode == 3
+              and "split modules" in done.stderr, done.stderr)
 
 
 def algebra(check: Check) -> None:
