@@ -1,9 +1,9 @@
 #!/usr/bin/env python3
-"""Builds each worked routine in three ways by blade-cc, runs it with a published vector, compares two keys,
-and prints a table. Licence: public domain (CC0).
+"""Builds each worked routine in three ways by blade-cc, and by `--split` those that need it, runs it with a
+published vector, compares two keys, and prints a table. Licence: public domain (CC0).
 
-    bench/routines PROGRAM FOLDER [--routines NAME,..] [--ways one,ledger,vault] [--most COMMANDS] [--table
-    FILE]
+    bench/routines PROGRAM FOLDER [--routines NAME,..] [--ways one,ledger,vault,split] [--most COMMANDS]
+    [--table FILE]
 
 PROGRAM is blade; FOLDER takes what is built. It needs the tools of blade-cc. --most bounds the traces on
 which two keys are compared. A vector that isn't met, a verdict that isn't the one in VERDICTS, or keys that
@@ -13,7 +13,7 @@ import os
 import subprocess
 import sys
 from dataclasses import dataclass
-from typing import Dict, List, Tuple
+from typing import Dict, List, Sequence, Tuple
 
 TOP = os.path.dirname(os.path.dirname(os.path.realpath(__file__)))
 COMPANIONS = f"{TOP}/companions"
@@ -79,6 +79,10 @@ VERDICTS = {(name, way): "no" if (name, way) in (("sha256", "one"), ("hmac", "on
             for name in CASES for way in WAYS}
 
 
+SPLIT = "split"  # a way for routines whose verdict is no in one memory
+VERDICTS.update({(name, SPLIT): "yes" for name, way in list(VERDICTS) if way == "one"})
+
+
 class Wrong(Exception):
     """Something isn't as published, or as it was measured."""
 
@@ -91,14 +95,23 @@ def run(words: List[str], **more) -> str:
     return done.stdout
 
 
-def built(program: str, source: str, way: str, folder: str) -> List[str]:
+def built(program: str, source: str, way: str, folder: str, more: Sequence[str] = ()) -> List[str]:
     """The modules of a routine in one way, in the order of linking; beside them stand the image, the
-    certificate and the report."""
+    certificate and the report. `more` has words of blade-cc."""
     words = [f"{COMPANIONS}/blade-cc", "--blade", program, "--no-fail", "-ffreestanding", "-Wall",
-             "-Werror=incompatible-pointer-types", *WAYS[way]]
+             "-Werror=incompatible-pointer-types", *WAYS.get(way, SECRET), *more]
     run([*words, f"{TOP}/examples/routines/{source}.c", "-o", f"{folder}/"],
         env={**os.environ, "BINARYEN_CORES": "1"})
-    return [f"{folder}/{way}.wasm"] * (way != "one") + [f"{folder}/{source}.wasm"]
+    first = {"one": [], SPLIT: [f"{folder}/shadow.wasm"]}.get(way, [f"{folder}/{way}.wasm"])
+    return first + [f"{folder}/{source}.wasm"]
+
+
+def recorded(name: str, folder: str) -> List[str]:
+    """The words by which blade-cc splits a routine by the run of its vector."""
+    os.makedirs(folder, exist_ok=True)
+    with open(f"{folder}/{name}.record", "w", encoding="utf-8") as file:
+        file.write(start_of(CASES[name], 0, False))
+    return ["--split", "--record", f"{CASES[name].export}={folder}/{name}.record"]
 
 
 def start_of(case: Case, memory: int, turned: bool) -> str:
@@ -135,9 +148,9 @@ class Measured:
 
 
 def measured(program: str, name: str, way: str, folder: str, most: int) -> Measured:
-    case, memory = CASES[name], 1 if way == "ledger" else 0
+    case, memory = CASES[name], 1 if way in ("ledger", SPLIT) else 0
     folder = f"{folder}/{case.source}"
-    modules = built(program, case.source, way, folder)
+    modules = built(program, case.source, way, folder, recorded(name, folder) if way == SPLIT else ())
     image, certificate, start, other = (f"{folder}/{name}" for name in (
         f"{case.source}.img", f"{case.source}.json", f"{name}.start", f"{name}.other"))
     for path, turned in ((start, False), (other, True)):
@@ -187,7 +200,7 @@ def main(words: List[str]) -> int:
     parser.add_argument("program")
     parser.add_argument("folder")
     parser.add_argument("--routines", default=",".join(CASES))
-    parser.add_argument("--ways", default=",".join(WAYS))
+    parser.add_argument("--ways", default=",".join([*WAYS, SPLIT]))
     parser.add_argument("--most", type=int, default=300_000 // 8)
     parser.add_argument("--table")
     given = parser.parse_args(words)
@@ -197,6 +210,8 @@ def main(words: List[str]) -> int:
     failed = False
     for name in given.routines.split(","):
         for way in given.ways.split(","):
+            if way == SPLIT and VERDICTS[name, "one"] == "yes":
+                continue
             try:
                 rows.append(row_of(name, way,
                                    measured(given.program, name, way, f"{given.folder}/{way}", given.most)))

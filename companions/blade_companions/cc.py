@@ -28,6 +28,13 @@ WORDS are clang's and, behind -Wl, wasm-ld's. Besides:
     --interface FILE         with --part: the interface file
     --stub STUB.wasm         with --part client: the stub of a library; may be given again
     --unlabelled             nothing is declared secret, and that is meant
+    --split[=auto|always|never]
+                             after a no, moves public numbers that pass through C's secret memory to a public
+                             one, the shadow, and judges again (blade-split); always: after a yes, too, and it
+                             is an error if that fails. What is made then is shadow.wasm and a split NAME.wasm
+    --record [EXPORT=]START  a start file whose run is recorded for --split, besides those of --counts and
+                             --start; may be given again
+    --public OFFSET:SIZE     for --split: these bytes of C's memory are public at the start
     --native                 also writes OUT/native/ (NAME.blade/native/): NAME.c, NAME.h and NAME.o for this
                              machine, if the verdict is yes (blade-native)
     --no-fail                if the verdict is no, the status is 0 all the same, what is made is kept, and
@@ -60,6 +67,7 @@ from typing import Dict, List, Optional, Sequence, Tuple
 
 from .verdict import compare, diagnostics, sarif, text
 from .c.arguments import BUILD, DISAGREE, LABELS, REFUSED, Asked, Stop, asked_by
+from .c import splitting
 from .c.build import Builder
 from .verdict.causes import causes_of
 from .ending import ended, is_answered
@@ -136,7 +144,8 @@ class Driver:
         self.keep_old()
         native = native_files(f"{self.folder}/native", self.module)
         named = [f"{self.folder}/{name}" for name in self.made() + reports]
-        for path in [*named, *(f"{self.aside}/{name}" for name in self.made()), *native, self.file]:
+        split = splitting.files_of(self)
+        for path in [*named, *(f"{self.aside}/{name}" for name in self.made()), *native, *split, self.file]:
             if path and os.path.lexists(path):
                 os.remove(path)
         for folder in (f"{self.folder}/build", self.aside, *[f"{self.folder}/native"] * self.asked.native):
@@ -197,7 +206,7 @@ class Driver:
         modules = self.accessors(self.label(linked, self.builder.split(self.module)))
         report, verified = self.harden(modules)
         self.refuse_public_arguments(modules)
-        return self.judge(modules, report, verified)
+        return self.judge(splitting.tried(self, splitting.Outcome(modules, report, verified)))
 
     def label(self, linked: Module, module: Module) -> str:
         asked, to = self.asked, f"{self.aside}/{self.module}.wasm"
@@ -317,8 +326,9 @@ class Driver:
         return [f"{where}: error: {why}",
                 f"{where}: note: in {module.function_name(function)}; blade says: {said}"]
 
-    def judge(self, modules: List[str], report: str, verified: str) -> int:
+    def judge(self, outcome: splitting.Outcome) -> int:
         """Tells the verdict and the places, and keeps what is made where it may be shipped."""
+        modules, report, verified = outcome.modules, outcome.report, outcome.verified
         is_yes = verified.endswith("safe yes\n") and report.endswith("constant-time yes\n")
         if is_yes and not self.asked.unlabelled and not is_labelled(modules):
             raise Stop(LABELS, f"blade-cc: error: {self.module}: {NOTHING} [blade-unlabelled]")
@@ -326,11 +336,11 @@ class Driver:
         self.put("verify.txt", verified.encode())
         is_kept = is_yes or self.asked.no_fail
         place = self.folder if is_kept else self.aside
-        self.move(self.aside, place)
+        self.move(self.aside, place, modules)
         modules = [f"{place}/{os.path.basename(path)}" for path in modules]
         told, lines, differ = self.explained(modules, f"{place}/{self.module}", report)
         if differ:
-            self.move(place, self.aside)
+            self.move(place, self.aside, modules)
             raise Stop(DISAGREE, *(f"blade-cc: error: blade-explain doesn't agree with the program: {one}"
                                    for one in differ))
         evidence = None
@@ -342,14 +352,19 @@ class Driver:
         if is_kept and self.file:
             written_to(self.file, read_file(modules[-1], "module"))
         protects = next(line for line in report.splitlines() if line.startswith("protects "))
-        say(f"{self.module}: {text.verdict_text(told.found, (), evidence)}; {protects}; "
+        split = f" {outcome.told};" if outcome.told else ""
+        say(f"{self.module}: {text.verdict_text(told.found, (), evidence)};{split} {protects}; "
             f"{text.declared_text(told.found).partition('. So')[0]}")
         for line in summary(evidence, lines) if evidence else ():
             say(f"{self.module}: {line}")
+        for line in splitting.hint(self.asked, modules) if not is_yes else ():
+            say(line, sys.stderr)
         return YES if is_kept else NO
 
-    def move(self, of: str, to: str) -> None:
-        for name in self.made() if of != to else []:
+    def move(self, of: str, to: str, modules: Sequence[str]) -> None:
+        """The image, its certificate and its modules go from one folder to another."""
+        names = dict.fromkeys([*self.made(), *map(os.path.basename, modules)])
+        for name in names if of != to else []:
             self.runner.show(["mv", f"{of}/{name}", f"{to}/{name}"])
             os.replace(f"{of}/{name}", f"{to}/{name}")
         self.keep_old()
@@ -439,9 +454,10 @@ def summed(texts: Sequence[str]) -> str:
 def line_of(module: Module, place: int) -> Line:
     """The line of C of a place in a module's file."""
     lines = Lines([])
+    inside = lines.origins.of(module, place - module.code)
     if lines.tool and module.has_lines:
-        lines.look_up(module.path, [place - module.code])
-    return lines.known.get((module.path, place - module.code), chosen([]))
+        lines.look_up(module.path, [inside])
+    return lines.known.get((module.path, inside), chosen([]))
 
 
 def mark(driver: Optional[Driver], is_made: bool) -> None:
@@ -489,6 +505,7 @@ def status_of(words: Sequence[str], usage: str) -> int:
             return Builder(asked, Runner(asked.verbose), "").alone()
         if not asked.sources and not asked.objects:
             raise Stop(USAGE, "blade-cc: error: no file is given")
+        splitting.refuse_words(asked)
         driver = driver_of(asked)
         status = driver.all()
     except Stop as stop:

@@ -73,6 +73,9 @@ class Asked:
     no_assumptions: bool = False  # the compiler may assume nothing, as in units with BLADE_SECRET
     native: bool = False
     no_fail: bool = False
+    split: str = "never"  # whether public numbers are taken out of C's memory: never, auto or always
+    record: List[str] = field(default_factory=list)  # start files for that, as for counts
+    public: List[str] = field(default_factory=list)  # bytes that are public at the start, as OFFSET:SIZE
 
     def is_linked_with(self, word: str) -> bool:
         return any(word in one for one in self.links)
@@ -125,6 +128,7 @@ def setters(asked: Asked) -> Dict[str, Callable[[str], None]]:
         "--start": keep("start"), "--keep": asked.keep.append,
         "--sysroot": lambda value: sysroot(asked, value),
         "--part": keep("part"), "--interface": keep("interface"), "--stub": asked.stubs.append,
+        "--record": asked.record.append, "--public": asked.public.append,
         "--public-callers": lambda value: asked.public_callers.extend(value.split(",")),
         "--export": lambda value: asked.links.append(f"--export={value}"),
         "--memory": lambda value: setattr(asked, "pages", number("--memory", value, 256)),
@@ -138,7 +142,7 @@ SWITCHES: Dict[str, Tuple[str, object]] = {
     "--ledger": ("way", "ledger"), "--vault": ("way", "vault"), "--unlabelled": ("unlabelled", True),
     "--no-fail": ("no_fail", True), "--no-assumptions": ("no_assumptions", True),
     "--native": ("native", True), "--all": ("everything", True), "--allocator": ("allocator", HEAP),
-    "-v": ("verbose", True)}
+    "--split": ("split", "auto"), "-v": ("verbose", True)}
 
 
 def asked_by(words: Sequence[str]) -> Asked:
@@ -162,6 +166,8 @@ def asked_by(words: Sequence[str]) -> Asked:
             asked.allocator = number(name, value, MOST_HEAP)
         elif word in SWITCHES:
             setattr(asked, *SWITCHES[word])
+        elif name == "--split":
+            asked.split = value
         else:
             plain(asked, word)
     refuse_forbidden(asked.flags + asked.links)

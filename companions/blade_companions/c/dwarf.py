@@ -7,6 +7,7 @@ from typing import Any, Dict, List, NamedTuple, Optional, Set, Tuple
 
 from ..formats.reading import Bad, Reader
 from ..formats.module import FUNCTION, Module
+from ..formats.places import NOWHERE, Origins
 
 COMPILE_UNIT, SUBPROGRAM, PARAMETER, INLINED, VARIABLE = 0x11, 0x2E, 0x05, 0x1D, 0x34
 POINTERS, AGGREGATES = frozenset([0x0F, 0x10, 0x42, 0x01]), frozenset([0x13, 0x17, 0x02])
@@ -262,7 +263,10 @@ class Walk:
         self.units = Units(module)
         self.roots = self.units.read()
         imported = len(module.imported(FUNCTION))
-        self.starts = {start - module.code: imported + at for at, (start, _) in enumerate(module.bodies)}
+        origins = Origins()
+        self.starts = {origins.of(module, start - module.code): imported + at
+                       for at, (start, _) in enumerate(module.bodies)}
+        self.starts.pop(NOWHERE, None)
         self.found: Dict[int, Subprogram] = {}
         self.folders: Dict[str, str] = {}  # where each unit was compiled
         self.path = self.unit = ""

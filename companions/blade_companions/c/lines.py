@@ -10,6 +10,7 @@ from . import paths
 from ..formats.lowering import LinkedFunction, Row
 from .sources import Sources
 from .symbolizer import Frame, frames_of, symbolizer
+from ..formats.places import NOWHERE as NO_PLACE, Origins
 from ..printing import printable
 
 HEADERS = (".h", ".inc", ".hpp")
@@ -59,6 +60,7 @@ class Lines:
                     self.starts.append(row.position)
                     self.rows.append((number, row))
         self.tool = symbolizer()
+        self.origins = Origins()  # of split modules
         self.known: Dict[Tuple[str, int], Line] = {}
         self.sources = sources or Sources()
         self.told: Dict[str, list] = {}  # what DWARF says of a module's functions, once it is asked
@@ -82,11 +84,15 @@ class Lines:
             return
         wanted = defaultdict(set)
         for spot in map(self.spot, positions):
-            if (spot and spot.linked.module.has_lines
-                    and (spot.linked.module.path, spot.inside) not in self.known):
-                wanted[spot.linked.module.path].add(spot.inside)
+            if spot and spot.linked.module.has_lines and self.key(spot) not in self.known:
+                wanted[spot.linked.module.path].add(self.key(spot)[1])
         for path, places in wanted.items():
-            self.look_up(path, sorted(places))
+            self.look_up(path, sorted(places - {NO_PLACE}))
+
+    def key(self, spot: Spot) -> Tuple[str, int]:
+        """The module, and the place in the code that its DWARF speaks of."""
+        module = spot.linked.module
+        return module.path, self.origins.of(module, spot.inside)
 
     def look_up(self, path: str, places: List[int]) -> None:
         for place, frames in frames_of(self.tool, path, places):
@@ -94,7 +100,7 @@ class Lines:
 
     def line(self, position: int) -> Line:
         spot = self.spot(position)
-        return self.known.get((spot.linked.module.path, spot.inside), NOWHERE) if spot else NOWHERE
+        return self.known.get(self.key(spot), NOWHERE) if spot else NOWHERE
 
     def source(self, line: Line) -> str:
         """The text of a line of C, where its file is there."""

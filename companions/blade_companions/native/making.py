@@ -23,6 +23,7 @@ from .stack import frames_in, most_bytes
 from .translation import translate
 
 DONE, NO = 0, 1
+FORGET = "shadow/forget"  # what the shadow of split modules exports
 MADE_BY = b"/* Made by blade-native"  # how NAME.c and NAME.h begin
 MOST_FINDINGS = 20  # are printed
 YES = "blade verify says yes to all four questions"
@@ -37,6 +38,9 @@ class Given(NamedTuple):
     @staticmethod
     def at(path: str, modules: Iterable[str] = ()) -> Given:
         image = image_of(read_file(path, "image"))
+        if FORGET in image.entries:
+            raise Bad(f"{path} is of split modules: if a program writes to C's memory, the shadow would "
+                      "still know what was there before, so blade-native doesn't take it")
         return Given(image, Origin(image, list(modules)))
 
 
