@@ -69,8 +69,15 @@ def templates_of(name: str) -> List[str]:
             for ending in TEMPLATES]
 
 
-def header_text(name: str, has_library: bool) -> str:
-    """What kind of header a missing one is, and what helps."""
+def nearest(folders: Sequence[str], includer: str) -> List[str]:
+    """The folders, those first that have most folders at their beginning in common with the file that
+    includes the header: another project below the current folder may have a header of this name, too."""
+    parts = os.path.dirname(os.path.relpath(includer or os.curdir)).split(os.sep)
+    return sorted(folders, key=lambda one: -len(os.path.commonprefix([parts, one.split(os.sep)])))
+
+
+def header_text(name: str, includer: str, has_library: bool) -> str:
+    """What kind of header a missing one is, and what helps. The includer is the file that includes it."""
     if name in STANDARD and has_library:
         return (f"{name} is a standard header, which the wasi-libc here hasn't: name another by --sysroot "
                 "FOLDER, or leave out what includes the header")
@@ -82,7 +89,7 @@ def header_text(name: str, has_library: bool) -> str:
                 "the header")
     place = looked_up(name)
     if place.folders:
-        words = " or ".join(f"-I {folder}" for folder in place.folders[:FEW])
+        words = " or ".join(f"-I {folder}" for folder in nearest(place.folders, includer)[:FEW])
         return f"{name} is a header of the project: say {words}"
     if place.templates or os.path.basename(name) == "config.h":
         of = f" from {place.templates[0]}" if place.templates else ""
@@ -95,8 +102,11 @@ def header_text(name: str, has_library: bool) -> str:
 
 def about_headers(errors: str, has_library: bool) -> List[str]:
     """What to do about headers that clang doesn't find, and about a clang that can't make WebAssembly."""
-    told = [f"{header_text(name, has_library)} [blade-header]"
-            for name in dict.fromkeys(found[1] for found in MISSING.findall(errors))]
+    includers: Dict[str, str] = {}
+    for includer, name in MISSING.findall(errors):
+        includers.setdefault(name, includer)
+    told = [f"{header_text(name, includer, has_library)} [blade-header]"
+            for name, includer in includers.items()]
     if "No available targets" in errors or "unable to create target" in errors:
         told.append("this clang lacks WebAssembly: apt-get install clang")
     return [f"blade-cc: note: {one}" for one in told]

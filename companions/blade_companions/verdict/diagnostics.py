@@ -81,14 +81,18 @@ class Problem:
 
 @dataclass
 class Source:
-    """A line that loads or declares secrets, how many refused ends they reach, and the likely reason: where
-    to mend first."""
+    """A line that loads or declares secrets, its cause, and the likely reason: where to mend first."""
 
     line: Line
     position: int
     text: str
-    ends: int
+    cause: Cause
     likely: Optional[Guess]
+
+    @property
+    def reason(self) -> str:
+        """What a run or a witness shows; if neither shows anything, the likely reason."""
+        return self.cause.observed or str(self.likely or "")
 
 
 @dataclass
@@ -281,7 +285,7 @@ def told_of(found: Findings, lines: Lines, causes: Sequence[Cause], protects: Se
         line = lines.line(at) if at >= 0 else known.get(cause.declared, NOWHERE)
         told = ("what is loaded here" if at >= 0 else origin_text(cause.origins[0], found,
                                                                   lines).replace(" is declared secret", ""))
-        sources.append(Source(line, at, told, cause.ends, why.get(cause.origins[0])))
+        sources.append(Source(line, at, told, cause, why.get(cause.origins[0])))
     return Told(found, ordered, [protect_step(one, lines) for one in protects],
                 [one.weight for one in protects], sources)
 
@@ -365,8 +369,8 @@ def beginnings(told: Told, sources: Sequence[Source], image: str, lines: Lines) 
     for source in sources[:MOST_SOURCES]:
         where = spelled(source.line,
                         f"{image}: position {source.position}" if source.position >= 0 else image)
-        yield f"{where}: note: {source.ends} come of {source.text}" + (
-            f", {source.likely}" if source.likely else "")
+        yield f"{where}: note: {source.cause.ends} come from {source.text}" + (
+            f", {source.reason}" if source.reason else "")
         text = lines.source_as_is(source.line)
         if text.strip():
             yield f" {text}"

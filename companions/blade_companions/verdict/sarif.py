@@ -40,7 +40,7 @@ def as_json(told: Told, image: str, modules: Sequence[str]) -> str:
                  "message": step.message} for step in one.steps],
     } for one in told.problems]
     sources = [{"place": line_object(one.line), "position": one.position if one.position >= 0 else None,
-                "text": one.text, "ends": one.ends,
+                "text": one.text, "ends": one.cause.ends,
                 "likely": one.likely._asdict() if one.likely else None} for one in told.sources]
     protects = [{"place": line_object(step.line), "position": step.position, "function": step.function,
                  "weight": weight, "message": step.message}

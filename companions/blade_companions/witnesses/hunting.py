@@ -46,12 +46,15 @@ def after_no(driver: "Driver", told: Told, lines: Lines, modules: Sequence[str],
         said = done.errors.strip() or f"blade-witness ends with status {done.status}"
         raise Stop(USAGE, f"blade-cc: error: --start {driver.asked.start}: {said}")
     image = told.found.image
-    evidence = evidence_of_run(told.found, (), secret_of(image, *entry, (), driver.asked.keep), entry[0], RUN)
+    causes = [source.cause for source in told.sources]
+    evidence = evidence_of_run(told.found, causes, secret_of(image, *entry, (), driver.asked.keep), entry[0],
+                               RUN)
     explained = ["--start", *entry, *kept]
     evidence.is_searched = done.status != GAVE_UP
     if os.path.exists(f"{prefix}.trace"):
         evidence.witness = read_witness(image, f"{made}.img", prefix, driver.program)
         explained += ["--witness", prefix, "--blade", driver.program]
+    evidence.mark_causes()
     evidence.mark_problems(told, lines)
     return evidence, explained
 
