@@ -10,6 +10,7 @@ from typing import List, Sequence, Tuple
 from .c.arguments import DISAGREE, LABELS, REFUSED, Stop
 from .c.declarations import NOTHING
 from .c.paths import shown
+from .c.splitting import Outcome
 from .c.tools import HERE, written_to
 from .cc import Driver, is_labelled
 from .formats.certificate import Protect, protects_of
@@ -70,20 +71,21 @@ class PartDriver(Driver):
         if told:
             raise Stop(REFUSED, *(f"blade-cc: error: {self.asked.interface}: {one}" for one in told), *hints)
 
-    def judge(self, modules: List[str], report: str, verified: str) -> int:
+    def judge(self, outcome: Outcome) -> int:
         """Tells the violations of this side, which are violations of each whole, and writes the stub."""
+        modules, report, verified = outcome.modules, outcome.report, outcome.verified
+        own = modules[len(self.asked.stubs):]
         is_yes = "\nconstant-time yes\n" in verified
         if is_yes and not self.asked.unlabelled and not is_labelled(modules):
             raise Stop(LABELS, f"blade-cc: error: {self.module}: {NOTHING} [blade-unlabelled]")
         is_kept = is_yes or self.asked.no_fail
         place = self.folder if is_kept else self.aside
         self.put("report.txt", report.encode())
-        self.move(self.aside, place)
-        modules = [*self.asked.stubs, *(f"{place}/{os.path.basename(one)}"
-                                        for one in modules[len(self.asked.stubs) :])]
+        self.move(self.aside, place, own)
+        modules = [*self.asked.stubs, *(f"{place}/{os.path.basename(one)}" for one in own)]
         told, lines, differ = self.explained(modules, f"{place}/{self.module}", verified)
         if differ:
-            self.move(place, self.aside)
+            self.move(place, self.aside, own)
             raise Stop(DISAGREE, *(f"blade-cc: error: blade-explain doesn't agree with the program: {one}"
                                    for one in differ))
         self.tell(told, lines, modules, f"{place}/{self.module}")

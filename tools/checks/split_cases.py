@@ -271,7 +271,7 @@ def words(check: Check) -> None:
             ("native code of a split", 2, ["--split", "--native"], "--native"),
             ("a public range that is none", 1, ["--split", "--public", "12"], "not OFFSET:SIZE"),
             ("a start of another export", 1, ["--split", "--record", f"other={start}"], "isn't exported"),
-            ("always, of what is no split", 6, ["--split=always", "--record", start], "--split: "),
+            ("always, of what is no split", 3, ["--split=always", "--record", start], "--split: "),
             ("a name that the shadow has", 1, ["--split", "--name", "shadow"], "the shadow's name"),
             ("never", 1, ["--split=never"], "constant-time no")):
         splits.cc(name, status, *more, *SECRET, "none.c", "-o", "none/", told=told)

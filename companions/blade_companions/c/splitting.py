@@ -59,6 +59,8 @@ def refuse_words(asked: Asked) -> None:
         for word, given in (("--record", asked.record), ("--public", asked.public)):
             if given:
                 raise Stop(USAGE, f"blade-cc: error: {word} goes with --split")
+    elif asked.part:
+        raise Stop(USAGE, "blade-cc: error: --split and --part: a part has no verdict of its own")
     elif asked.native:
         raise Stop(
             USAGE,
