@@ -1,5 +1,5 @@
-//! Whether instructions are a program that has bytes, and the bytes if they are.
-ghost use Rattle.std.specs.Prelude.{◌≡◌, ◌^◌, ◌<◌, ◌≤◌, IfOk, IfSome, IsTrue, Option};
+//! The check whether a program can be assembled, and its bytes if it can.
+ghost use Rattle.std.specs.Prelude.{◌≡◌, ◌↔◌, ◌^◌, ◌<◌, ◌≤◌, IfNone, IfOk, IfSome, IsTrue};
 ghost use Rattle.bl_asm.specs.Assembly.{AreInstructions, IsAimed, IsCode, assembled};
 ghost use Rattle.bl_x64.specs.Programs.{IsAddress, IsInstruction, IsPlace};
 
@@ -8,9 +8,9 @@ use bl_base::NoMemory;
 use bl_x64::{Address, Instruction, Place, Register};
 use std::alloc::Global;
 
-/// Whether an address can be spelled.
+/// Whether an address has an encoding.
 fn is_address(a: Address) -> bool
-    ensures { IsTrue result → IsAddress a }
+    ensures { IsTrue result ↔ IsAddress a }
 {
     match a.index {
         None => true,
@@ -18,9 +18,9 @@ fn is_address(a: Address) -> bool
     }
 }
 
-/// Whether a place can.
+/// Whether a place has an encoding.
 fn is_place(place: Place) -> bool
-    ensures { IsTrue result → IsPlace place }
+    ensures { IsTrue result ↔ IsPlace place }
 {
     match place {
         Place::Register(_) => true,
@@ -28,9 +28,9 @@ fn is_place(place: Place) -> bool
     }
 }
 
-/// Whether an instruction can.
+/// Whether an instruction has an encoding.
 fn is_instruction(instruction: Instruction) -> bool
-    ensures { IsTrue result → IsInstruction instruction }
+    ensures { IsTrue result ↔ IsInstruction instruction }
 {
     match instruction {
         Instruction::Mov { from, .. }
@@ -44,9 +44,9 @@ fn is_instruction(instruction: Instruction) -> bool
     }
 }
 
-/// Whether an instruction of a program goes to one of it, or to its end.
+/// Whether an instruction, if it is a jump, goes to an instruction of the program or to its end.
 fn is_aimed(code: &[Instruction], instruction: Instruction) -> bool
-    ensures { IsTrue result → IsAimed code.now instruction }
+    ensures { IsTrue result ↔ IsAimed code.now instruction }
 {
     match instruction {
         Instruction::Jump { to } | Instruction::JumpIf { to, .. } => to as usize <= code.len(),
@@ -54,9 +54,9 @@ fn is_aimed(code: &[Instruction], instruction: Instruction) -> bool
     }
 }
 
-/// Whether each instruction can be spelled and goes to one of the program.
+/// Whether each instruction has an encoding, and each jump a target in the program.
 fn are_instructions(code: &[Instruction]) -> bool
-    ensures { IsTrue result → AreInstructions code.now }
+    ensures { IsTrue result ↔ AreInstructions code.now }
 {
     for instruction in code {
         if !is_instruction(*instruction) || !is_aimed(code, *instruction) {
@@ -66,9 +66,11 @@ fn are_instructions(code: &[Instruction]) -> bool
     true
 }
 
-/// The bytes of a program; none where an instruction can't be spelled, goes nowhere, or the program is too long for jumps.
+/// The bytes of a program; None exactly if the program cannot be assembled: an instruction has no encoding, a jump has no target in the program, or
+/// the program has 2^31 bytes or more.
 pub fn assemble_checked(alloc: Global, code: &[Instruction]) -> Result<Option<Vec<u8>>, NoMemory>
-    ensures { IfOk result (λ answer. IfSome answer (λ bytes. IsCode code.now × (bytes.items ≡ assembled code.now))) }
+    ensures bytes { IfOk result (λ answer. IfSome answer (λ bytes. IsCode code.now × (bytes.items ≡ assembled code.now))) }
+    ensures refused { IfOk result (λ answer. IfNone answer (IsCode code.now → ⊥)) }
 {
     if !are_instructions(code) {
         return Ok(None);

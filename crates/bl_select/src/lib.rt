@@ -2,17 +2,17 @@
 //! and laws.rt states that a template does and shows what its command does.
 #![tactic(auto)]
 
-mod accesses;
-mod branches;
-mod divisions;
+mod access_writer;
+mod branch_writer;
+mod division_writer;
 pub mod laws;
 mod location;
 mod operands;
-mod sets;
-mod shapes;
+mod set_writer;
+mod shape_table;
 
-pub use accesses::{push_load, push_store};
-pub use branches::{push_jump, push_test};
+pub use access_writer::{push_load, push_store};
+pub use branch_writer::{push_jump, push_test};
 pub use location::{Location, Shape, Source};
-pub use sets::push_set;
-pub use shapes::shape_of;
+pub use set_writer::push_set;
+pub use shape_table::shape_of;

@@ -5,12 +5,12 @@ ghost use Rattle.bl_x64.specs.declared.register.Register.TheVariants.{Rax, Rcx};
 ghost use Rattle.bl_select.specs.declared.location.Shape.TheVariants as shape_as;
 ghost use Rattle.bl_select.specs.Templates.{in_register, load as load_of, load_reach, set_template, value};
 
-use crate::divisions::push_divide;
+use crate::division_writer::push_divide;
 use crate::location::{Location, Shape, Source};
 use crate::operands::{
     alu, choose, constant, extended, load, product, push_finish, push_truth, push_two, test_zero,
 };
-use crate::shapes::shape_of;
+use crate::shape_table::shape_of;
 use bl_base::NoMemory;
 use bl_ops::Op;
 use bl_x64::{Alu, Condition, Count, Instruction, Place, Register, Rotation, Size};

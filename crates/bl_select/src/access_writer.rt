@@ -1,6 +1,7 @@
 //! The instructions of a Load and of a Store.
 ghost use Rattle.std.specs.Prelude.{◌≡◌, ◌++◌, OnOk};
-ghost use Rattle.bl_x64.specs.declared.instruction.{Instruction.TheVariants as i, Place.TheVariants as place};
+ghost use Rattle.bl_x64.specs.declared.instruction.Instruction.TheVariants as i;
+ghost use Rattle.bl_x64.specs.declared.instruction.Place.TheVariants as place;
 ghost use Rattle.bl_x64.specs.declared.register.Register.TheVariants.{Rax, Rcx};
 ghost use Rattle.bl_select.specs.Templates.{accessed as accessed_place, address as address_of, load_from as load_by, load_template, store_template, store_to as store_by};
 
