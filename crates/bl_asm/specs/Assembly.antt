@@ -1,5 +1,5 @@
--- The bytes of a program: those of its instructions in order, with the number of each jump's target replaced by a distance. (The manual, volume 2:
--- "JMP" and "Jcc" with rel32.)
+-- The bytes of a program: those of its instructions in order, with the number of each jump's target replaced by a distance. In volume
+-- 2 of the manual see "JMP" and "Jcc" with rel32.
 use Rattle.std.specs.Prelude.{ℕ, zero, suc, ◌+◌, ◌-◌, ◌%◌, ◌^◌, ◌≤◌, ◌<◌, ◌≡◌, List, [], ◌∷◌, ◌++◌, length, Some, slice_get, slice_index}
 use Rattle.bl_x64.specs.declared.instruction.Instruction.{Instruction}
 use Rattle.bl_x64.specs.declared.instruction.Instruction.TheVariants.{Jump, JumpIf}

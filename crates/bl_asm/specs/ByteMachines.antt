@@ -1,7 +1,7 @@
 -- The machine that decodes and runs the bytes of a program. Its place is the number of the next byte, and the first byte has number 0: the
--- processor's RIP is the place plus the address of the code. Each step decodes the instruction again, as a processor does. (The manual, volume 2:
--- "JMP" and "Jcc": a jump adds its distance, extended by its sign, to the place after it, modulo 2 ^ 64.) The code is not in memory, so no store
--- changes it.
+-- processor's RIP is the place plus the address of the code. Each step decodes the instruction again, as a processor does. A jump adds its
+-- distance, extended by its sign, to the place after it, modulo 2 ^ 64 (volume 2 of the manual, "JMP" and "Jcc"). The code is not in memory, so no
+-- store changes it.
 use Rattle.std.specs.Prelude.{ℕ, ◌+◌, ◌-◌, ◌%◌, ◌^◌, List, length, drop, Option, Some, None}
 use Rattle.bl_base.specs.Runs.{Next, goes, ends, stuck}
 use Rattle.bl_x64.specs.Machines.{Areas, Core, Effect, goes_on, jumps, faults, effect, widened}

@@ -1,7 +1,7 @@
--- The instruction that bytes begin with, and the bytes after it; None if they begin with no instruction of this crate. (Intel 64 and IA-32
--- Architectures Software Developer's Manual, volume 2, chapter 2, and the opcode maps of appendix A.) This definition is written from the
--- manual and does not use the encoder; the law `decoding_returns` connects them. It reads fewer encodings than a processor does, and answers None
--- for all others, which leaves the machine without a step. It reads:
+-- The instruction that bytes begin with, and the bytes after it; None if they begin with no instruction of this crate. This definition is written
+-- from the Intel 64 and IA-32 Architectures Software Developer's Manual, volume 2, chapter 2, and the opcode maps of appendix A. It does not use the
+-- encoder; the law `decoding_returns` connects them. It reads fewer encodings than a processor does, and answers None for all others, which leaves
+-- the machine without a step. It reads:
 -- - at most one of the prefixes 66 and F3, then at most one REX byte, which may be absent;
 -- - opcodes of one byte, and of two bytes with 0F first, that the tables below list;
 -- - registers as operands (mod 3), and memory by a SIB byte with scale 1 and 4 bytes of displacement (mod 2, r/m 4);

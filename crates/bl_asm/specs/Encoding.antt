@@ -1,5 +1,5 @@
--- The bytes of each instruction, as the encoder writes them. (Intel 64 and IA-32 Architectures Software Developer's Manual, volume 2, chapter 2,
--- and the opcode column of each instruction's page.) The form is [prefix] [REX] opcode [ModRM [SIB displacement]] [immediate]. Of the encodings
+-- The bytes of each instruction, as the encoder writes them. See the Intel 64 and IA-32 Architectures Software Developer's Manual, volume 2,
+-- chapter 2, and the opcode column of each instruction's page. The form is [prefix] [REX] opcode [ModRM [SIB displacement]] [immediate]. Of the encodings
 -- that the manual allows, this one is chosen:
 -- - Every instruction except JMP, Jcc and LFENCE has a REX byte, even if its bits are 0. So a register of 8 bits is always the lowest byte of its
 --   register, and never AH, CH, DH or BH.

@@ -1,6 +1,6 @@
--- What an instruction does to registers, flags and memory. (The manual, volume 2: "MOV", "MOVZX", "MOVSX/MOVSXD", "ADD", "OR", "AND", "SUB",
--- "XOR", "CMP", "TEST", "IMUL", "RCL/RCR/ROL/ROR", "SAL/SAR/SHL/SHR", "LZCNT", "TZCNT", "POPCNT", "SETcc", "CMOVcc", "CWD/CDQ/CQO", "DIV", "IDIV",
--- "LFENCE", "JMP", "Jcc".) Differences from the manual:
+-- What an instruction does to registers, flags and memory. Lay this file next to the pages of volume 2 of the manual for "MOV", "MOVZX",
+-- "MOVSX/MOVSXD", "ADD", "OR", "AND", "SUB", "XOR", "CMP", "TEST", "IMUL", "RCL/RCR/ROL/ROR", "SAL/SAR/SHL/SHR", "LZCNT", "TZCNT", "POPCNT",
+-- "SETcc", "CMOVcc", "CWD/CDQ/CQO", "DIV", "IDIV", "LFENCE", "JMP" and "Jcc". Differences from the manual:
 -- - The only memory operand is a base, an index with scale 1 if there is one, and a displacement of 32 bits. Segments have base 0.
 -- - An access must lie in one of three areas, whole. Any other access has no step: the machine is stuck there, and a proof that it is not stuck
 --   is a proof of memory safety. Paging, canonical addresses and alignment checks are not part of this model: the host maps the three areas.

@@ -1,6 +1,5 @@
--- The sixteen general registers, the sizes of operands, and what a write of a register leaves in it. (Intel 64 and IA-32 Architectures
--- Software Developer's Manual, volume 1, section 3.4.1.1, and volume 2, table 3-1.) "The manual" below and in the other files of this crate is
--- that manual. Other registers, such as RIP, RFLAGS and the vector registers, are not part of this model: the number of the next instruction
+-- The sixteen general registers, the sizes of operands, and what a write of a register leaves in it. In this crate "the manual" is the Intel 64 and
+-- IA-32 Architectures Software Developer's Manual; for this file see volume 1, section 3.4.1.1, and volume 2, table 3-1. Other registers, such as RIP, RFLAGS and the vector registers, are not part of this model: the number of the next instruction
 -- (Programs.antt) stands for RIP, and four flags (Operations.antt) for RFLAGS.
 use Rattle.std.specs.Prelude.{ℕ, ◌%◌, ◌^◌, ◌+◌, ◌-◌, nat_eq, if◌then◌else◌}
 use Rattle.bl_x64.specs.declared.register.Register.{Register}

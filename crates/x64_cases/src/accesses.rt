@@ -52,7 +52,7 @@ struct Operands {
 }
 
 /// The operands of a form of places and a number of values.
-fn operands(form: usize, i: usize) -> Operands
+fn operands_of(form: usize, i: usize) -> Operands
     requires form { form < 16 }
     requires i { i < 8 }
 {
@@ -105,7 +105,7 @@ fn access_case(
     requires form { form < 16 }
     requires i { i < 8 }
 {
-    let it = operands(form, i);
+    let it = operands_of(form, i);
     push_operands(kind, it, text)?;
     let mut code: Vec<Instruction> = Vec::new(alloc);
     push_access(kind, it, &mut code)?;

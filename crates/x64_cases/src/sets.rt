@@ -23,7 +23,7 @@ struct Operands {
 }
 
 /// The operands of a form of places and a number of values.
-fn operands(form: usize, i: usize) -> Operands
+fn operands_of(form: usize, i: usize) -> Operands
     requires form { form < 16 }
     requires i { i < 14 }
 {
@@ -69,7 +69,7 @@ fn set_case(
     let Some(op) = by_image_code(number) else {
         return Ok(());
     };
-    let it = operands(form, i);
+    let it = operands_of(form, i);
     push_operands(op, number, it, text)?;
     let mut code: Vec<Instruction> = Vec::new(alloc);
     push_set((form + i) % 2 == 1, op, it.to, it.a, it.b, it.c, &mut code)?;
