@@ -59,15 +59,25 @@ Continues e position template (Jump to) = Unit {0}
 Continues e position template command = e.begins (suc position) ≡ length template + e.begins position
 
 -- a state of a plain run at which a program of instructions has the template of the command
-pub record IsSelected (program : Program) (e : Selection) (code : List Instruction) (s : Plain) : Type 0 where
+pub record IsChosen (program : Program) (e : Selection) (code : List Instruction) (s : Plain) : Type 0 where
   pub command : Command
   pub is : command_at program s.position ≡ Some command
   pub stands : Stands code (e.begins s.position) (template_of program e s.position command)
   pub continues : Continues e s.position (template_of program e s.position command) command
   pub placed : ArePlaced program e s.position command
+
+-- such a state, at which the access of the command lies in the space of all memories
+pub record IsSelected (program : Program) (e : Selection) (code : List Instruction) (s : Plain) : Type 0 where
+  pub chosen : IsChosen program e code s
+  pub open chosen use *
   pub within : LiesWithin program s command
 
--- a plain run of n steps, each from a state with a selected command
+-- a plain run of n steps, each from a state with a chosen command
+abbrev pub RunsChosen : Program → Selection → List Instruction → ℕ → Plain → Plain → Type 0
+RunsChosen program e code zero s t = s ≡ t
+RunsChosen program e code (suc n) s t = (next : Plain) × (plain_step program s ≡ goes next) × IsChosen program e code s × RunsChosen program e code n next t
+
+-- the same, with accesses that lie in the space of all memories
 abbrev pub RunsSelected : Program → Selection → List Instruction → ℕ → Plain → Plain → Type 0
 RunsSelected program e code zero s t = s ≡ t
 RunsSelected program e code (suc n) s t = (next : Plain) × (plain_step program s ≡ goes next) × IsSelected program e code s × RunsSelected program e code n next t

@@ -11,7 +11,9 @@ ghost use Rattle.bl_x64.specs.declared.instruction.Instruction.TheVariants.{Lfen
 ghost use Rattle.bl_select.specs.{Frames.Assigns, Frames.Frame, Frames.IsFrame, Frames.IsPlacing, Frames.Matches, Frames.IsSource, Frames.KeepsFrames, Frames.Passes, Frames.Placing, Frames.source_of};
 ghost use Rattle.bl_select.specs.{Shapes.shape_of, Silence.Ends, Silence.IsWritable, Silence.SameBases, Silence.most_of};
 ghost use Rattle.bl_select.specs.OpenFrames.{AreOpen, OpenFrame};
-ghost use Rattle.bl_select.specs.{Selection.RunsSelected, Selection.Selection, Simulation.at};
+ghost use Rattle.bl_select.specs.{Selection.LiesWithin, Selection.RunsChosen, Selection.RunsSelected, Selection.Selection, Simulation.at};
+ghost use Rattle.bl_seq.specs.OwnMemory.{IsReached};
+ghost use Rattle.bl_program.specs.declared.command.Command.{Command};
 ghost use Rattle.bl_select.specs.{Simulation.Branches, Simulation.Follows, Simulation.IsStage, Simulation.IsWithin, StraightRuns.Stands, StraightRuns.runs, StraightRuns.shows};
 ghost use Rattle.bl_select.specs.Templates.{jump_template, load_template, set_template, store_template, test_template, value, write};
 ghost use Rattle.bl_select.specs.declared.{location.Location.Location, location.Source.Source};
@@ -136,6 +138,22 @@ pub fn protects_are_fenced()
 pub fn runs_follow()
     ensures { (program : Program) (e : Selection) (code : List Instruction) → IsFrame e.frame → ((position : ℕ) → IsPlacing e.frame (e.placing position))
         → (n : ℕ) (s t : Plain) (c : Core) → Matches program e.frame (e.placing s.position) s c → RunsSelected program e code n s t
+        → (m : ℕ) × (d : Core) × (n ≤ m) × (m ≤ 21 * n) × StepsTo (machine_step e.frame.areas code) m (at (e.begins s.position) c) (at (e.begins t.position) d)
+        × Matches program e.frame (e.placing t.position) t d }
+{}
+
+/// Accesses: each access that a run of a well-formed program reaches lies in the space of all memories, as `loads_follow` and `stores_follow` ask.
+#[tactic(auto, using(crate::proofs::Within::lies_within))]
+pub fn accesses_lie_within()
+    ensures { (program : Program) (s : Plain) → IsReached program s → (found : Command) → command_at program s.position ≡ Some found
+        → LiesWithin program s found }
+{}
+
+/// Runs of well-formed programs: the same as `runs_follow`, without a premise on accesses, if the run begins at a state that a run of a well-formed
+/// program reaches.
+pub fn reached_runs_follow()
+    ensures { (program : Program) (e : Selection) (code : List Instruction) → IsFrame e.frame → ((position : ℕ) → IsPlacing e.frame (e.placing position))
+        → (n : ℕ) (s t : Plain) (c : Core) → IsReached program s → Matches program e.frame (e.placing s.position) s c → RunsChosen program e code n s t
         → (m : ℕ) × (d : Core) × (n ≤ m) × (m ≤ 21 * n) × StepsTo (machine_step e.frame.areas code) m (at (e.begins s.position) c) (at (e.begins t.position) d)
         × Matches program e.frame (e.placing t.position) t d }
 {}
