@@ -80,6 +80,6 @@ runs_within program e code (suc n) s t r run =
     let next = run.0 in
     let chosen = run.2 in
     let comes : StepsTo (plain_step program) (r.steps + 1) (opening program r.function r.start) next =
-      comes_then (plain_step program) r.steps 1 (opening program r.function r.start) s next r.comes (next, run.1, refl) in
+    comes_then (plain_step program) r.steps 1 (opening program r.function r.start) s next r.comes (next, run.1, refl) in
     let reached : IsReached program next = record { facts = r.facts; rules = r.rules; function = r.function; start = r.start; start_fits = r.start_fits; steps = r.steps + 1; comes = comes } in
     (next, run.1, record { chosen = chosen; within = lies_within program s r chosen.command chosen.is }, runs_within program e code n next t reached run.3)

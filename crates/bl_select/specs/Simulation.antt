@@ -44,7 +44,7 @@ pub record Branches (program : Program) (f : Frame) (placing : ℕ → Placing) 
   pub matches : Matches program f (placing next.position) next core
   pub frames : KeepsFrames f c core
 
--- an access lies in the space of all memories. The law `own_memory` of bl_seq gives this for each access that a run of a well-formed program reaches
+-- an access lies in the space of all memories. The law `accesses_lie_within` gives this for each access that a run of a well-formed program reaches
 pub record IsWithin (program : Program) (s : Plain) (kind : AccessKind) (memory offset : ℕ) (address : Operand) : Type 0 where
   pub ends : effective program memory offset (value_of program address s) + width_of kind ≤ length s.space
   pub small : length s.space < 2 ^ 63
