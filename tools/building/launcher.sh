@@ -201,18 +201,37 @@ is_old() {
     [ -n "$found" ]
 }
 
+# The lines in crates.txt of the crates that the program is made from: blade, and those that it stands on, in
+# any order.
+program_lines() {
+    local line name words=() left=(blade) at=0
+    local -A lines=() seen=()
+    while read -r line; do
+        case $line in '' | '#'*) ;; *) lines[${line%%[: ]*}]=$line ;; esac
+    done < "$here/crates.txt"
+    while [ "$at" -lt ${#left[@]} ]; do
+        name=${left[at]}
+        at=$((at + 1))
+        if [ -z "${lines[$name]-}" ] || [ -n "${seen[$name]-}" ]; then continue; fi
+        seen[$name]=yes
+        printf '%s\n' "${lines[$name]}"
+        read -r -a words <<< "${lines[$name]#*:}"
+        left+=("${words[@]}")
+    done
+}
+
 # The sum over all that the program is made from: its crates' lines in crates.txt, and their sources,
-# definitions and proofs. It needs coreutils and findutils only. Where a tool is missing the sum is another
-# one.
+# definitions and proofs. Other crates, such as those of tests, don't count. It needs coreutils and findutils
+# only. If a tool is missing the sum is another one.
 source_stamp() {
-    local line
+    local line lines names
     (
         cd "$here" || exit
         export LC_ALL=C
-        while read -r line; do
-            case $line in '' | '#'* | tests_*) ;; *) printf '%s\n' "$line" ;; esac
-        done < crates.txt | sort
-        find crates -mindepth 2 \( -name out -o -path 'crates/tests_*' \) -prune \
+        mapfile -t lines < <(program_lines)
+        names=("${lines[@]%%[: ]*}")
+        printf '%s\n' "${lines[@]}" | sort
+        find "${names[@]/#/crates/}" -mindepth 1 -name out -prune \
             -o -type f \( -name '*.rt' -o -name '*.antt' \) -print0 |
             sort -z | xargs -0 sha256sum
     ) | sha256sum | { read -r line _ && echo "$line"; }
