@@ -35,7 +35,6 @@ INDEX = (Answer(5, "name the function"),)
 TWO = (Answer(5, "2 functions are called f"),)
 ORDER = (Answer(5, "don't agree which parameter is key"),)
 WRAPPED = (Answer(5, "in place of f (--wrap)"),)
-NAMELESS = (Answer(5, "no function is called f(unsigned_int)"),)
 LINKER = (Answer(3, "wasm-ld"),)  # the linker refuses an option or a file
 STRICT = (Answer(5, "give --no-assumptions to blade-cc -c there, too"),)  # a unit beside marked values
 CHANGED = (Answer(5, "isn't what its labels were made for"),)

@@ -27,8 +27,10 @@ OTHER_MACHINE = {
     "-mmultimemory": "several memories", "-m64": "64-bit addresses"}
 
 # Words of clang and LLVM by which a labelled function may lose what keeps it, or another one is called.
-FORBIDDEN = re.compile(r"-force-(?:remove-)?attribute\b|-forceattrs-csv-path\b|-fopenmp|-fplugin=|"
-                       r"-fpass-plugin=|-load$|-load-pass-plugin\b")
+FORBIDDEN = re.compile(r"--?(?:mllvm=--?)?(?:force-(?:remove-)?attribute\b|forceattrs-csv-path\b|fopenmp|"
+                       r"fplugin=|fpass-plugin=|load$|load-pass-plugin\b|"
+                       r"config(?:$|=|-system-dir|-user-dir))")
+DEEP = 10  # files of words that name one another
 
 
 class Stop(Exception):
@@ -215,11 +217,17 @@ def plain(asked: Asked, word: str) -> None:
                    f"nor an object ({' '.join(OBJECTS)})")
 
 
-def refuse_forbidden(words: Sequence[str]) -> None:
+def refuse_forbidden(words: Sequence[str], depth: int = 0) -> None:
+    """Refuses what a labelled function may lose its label by, also in files of words (@FILE) that clang or
+    the linker reads."""
     for word in words:
-        if FORBIDDEN.match(word.replace("--", "-", 1)):
+        if FORBIDDEN.match(word):
             raise Stop(USAGE, f"blade-cc: error: {word}: with it a labelled function may lose "
                        "what keeps its label; leave it out")
+        if word.startswith("@") and depth < DEEP and os.path.isfile(word[1:]):
+            text = read_file(word[1:]).decode("utf-8", "surrogateescape")
+            refuse_forbidden([part for one in re.split(r"\s+", text) for part in one.strip("\"'").split(",")],
+                             depth + 1)
 
 
 def refuse_machine(word: str) -> None:

@@ -9,14 +9,11 @@ from typing import Dict, Iterable, List, NamedTuple, Sequence, Set, Tuple
 from ..formats.image import Command, Image, Operand
 from ..formats.instructions import CALL, CALL_INDIRECT, read_instruction, read_locals
 from ..formats.labels import Entry
-from ..formats.lowering import LinkedFunction
 from ..formats.module import FUNCTION, Module
 from ..formats.operators import MOVE, SELECT
 from ..formats.reading import Reader
 from ..verdict.flow import declared_origins, find
 from .units import starts_of, units_of
-
-
 
 
 class Given(NamedTuple):
@@ -144,10 +141,3 @@ def gone(linked: Module, entries: Sequence[Entry], allowed: Iterable[int]) -> Li
                     and not targets & reached_from(caller, called)):
                 found.append((caller, min(targets)))
     return list(dict.fromkeys(found))
-
-
-def numbers_in(image_functions: Sequence[LinkedFunction], module: Module, indexes: Iterable[int]) -> Set[int]:
-    """The numbers in the image of a module's functions."""
-    wanted = set(indexes)
-    return {number for number, one in enumerate(image_functions) if one.module.path == module.path
-            and one.index in wanted}

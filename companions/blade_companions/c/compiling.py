@@ -12,6 +12,7 @@ from ..formats.reading import Bad
 from ..printing import printable, say
 from ..writing import write_file as written_to
 from .arguments import BUILD, LABELS, USAGE, Asked, Stop
+from .assumptions import INITIAL
 from .missing import about_headers
 from .opaque import BY_WORDS, MARK, Unit, opaque
 from .prototypes import differing
@@ -61,22 +62,27 @@ class Compiler:
         if os.path.isdir(library):
             # Its headers ask for the macro.
             headers += ["-isystem", library, "-D__wasi__"]
-        return words + headers + self.last + asked.flags
+        return words + headers + self.last + asked.flags + [INITIAL] * asked.no_assumptions
 
     def compile(self, pairs: Sequence[Tuple[str, str]], folder: str, last: str = "-c") -> None:
         """Makes the objects of sources, with what stands between in a folder. Where one has marked values the
         compiler may assume nothing in any."""
-        texts = []
-        for source, to in pairs:
+        for source, _ in pairs:
             refuse_path(source)
-            texts.append("" if source.endswith(ASSEMBLER) else self.before(source, to, between(to, folder)))
-        if any(MARK in text for text in texts):
+        texts = self.texts(pairs, folder)
+        if any(MARK in text for text in texts) and not self.asked.no_assumptions:
             self.asked.no_assumptions = True
+            texts = self.texts(pairs, folder)
         for (source, to), text in zip(pairs, texts):
             if source.endswith(ASSEMBLER):
                 self.run([*self.words(source), last, "-o", to, source])
             else:
                 self.behind(source, to, text, between(to, folder), last)
+
+    def texts(self, pairs: Sequence[Tuple[str, str]], folder: str) -> List[str]:
+        """LLVM's texts of sources; of assembler nothing."""
+        return ["" if source.endswith(ASSEMBLER) else self.before(source, to, between(to, folder))
+                for source, to in pairs]
 
     def behind(self, source: str, to: str, text: str, first: str, last: str) -> None:
         """What labels need in a source's text, and its object."""
@@ -167,8 +173,10 @@ def between(to: str, folder: str) -> str:
 
 
 def refuse_path(source: str) -> None:
-    """A path stands in lines of assembler, which read some letters otherwise."""
-    if not source.isprintable() or "\\" in source or '"' in source:
+    """A path stands in lines of assembler, which read some letters otherwise. The lines are UTF-8, also if
+    the locale isn't."""
+    text = os.fsencode(source).decode("utf-8", "surrogateescape")
+    if not text.isprintable() or "\\" in text or '"' in text:
         raise Stop(USAGE, f"blade-cc: error: {printable(source)}: labels stand in lines with the source's "
                    "path, and a tab, a line's end, a backslash, a quote or a letter "
                    "that doesn't print would break them: rename it")

@@ -260,7 +260,7 @@ class Opaque:
 
     def written(self) -> str:
         lines = [line for part in self.lines for line in part.split("\n")]
-        lines = without_assumptions(lines) if self.is_strict else lines
+        lines = without_assumptions(lines, self.text.has_plain_pointers) if self.is_strict else lines
         return "\n".join(lines + record(self.unit, self.is_strict)) + "\n"
 
 
