@@ -108,6 +108,7 @@ class Told:
     observed: Dict[int, str] = field(default_factory=dict)
     witnessed: Optional[int] = None  # the position of the problem that a witness shows
     level: str = WARNING  # what a violation is called
+    warnings: List[str] = field(default_factory=list)  # of what the verdict rests on
 
     def also(self, one: Problem) -> str:
         """What is shown of a problem, behind its text."""
