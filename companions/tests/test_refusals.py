@@ -31,6 +31,7 @@ CASES = [
     ("00 02 40 02 40 0B 0B 0B", "limit: nesting 3", 1, 3, "opens 3 blocks"),
     ("01 A0 40 7F 0B", "limit: locals 8224", 1, 0, "8224 locals"),
     ("00 0B", "link: m import 0 unknown", -1, -1, "the function b is imported from a, which no module gives"),
+    ("00 10 00 0B", "link: m import 0 unknown", -1, -1, "from a (called by function 1), which no module"),
     ("00 0B", "link: m import 0 mismatch", -1, -1, "which has another type there"),
     ("00 0B", "limit: reserve 1025", -1, -1, "--memory"),
 ]
@@ -155,8 +156,8 @@ class Refusals(unittest.TestCase):
         with files({"a/main.c": "#include \"part.c\"\nint main(void) { return one() + two() + three(); }\n",
                     "a/part.c": "/* int one(void) { */\n#ifdef PART\nint\none(void)\n{\n    return 1;\n}\n"
                                 "#endif\n",
-                    "a/two.c": "static int three(void) { return 3; }\nint two(int a,\n        int b) { return "
-                               "2; }\n",
+                    "a/two.c": "static int three(void) { return 3; }\nint two(int a,\n        int b) "
+                               "{ return 2; }\n",
                     "b/x.c": "int four(void) { return 4; }\n", "b/four.c": "int four(void) { return 4; }\n",
                     "b/calls.c": "int two(void);\nint five = 5;\n"}):
             names = ["one", "two", "three", "four", "five"]
