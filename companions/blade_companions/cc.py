@@ -32,7 +32,8 @@ WORDS are clang's and, behind -Wl, wasm-ld's. Besides:
                              after a no, moves public numbers that pass through C's secret memory to a public
                              one, the shadow, and judges again (blade-split); always: after a yes, too, and it
                              is an error if that fails. What is made then is shadow.wasm and a split
-                             NAME.wasm. Without a recorded run (--record) nothing is tried, and a warning says so
+                             NAME.wasm. Without a recorded run (--record) nothing is tried, and a warning says
+                             so
     --record [EXPORT=]START  a start file whose run is recorded for --split, besides those of --counts and
                              --start; may be given again
     --public OFFSET:SIZE     for --split: these bytes of C's memory are public at the start
