@@ -31,7 +31,9 @@ WORDS are clang's and, behind -Wl, wasm-ld's. Besides:
     --split[=auto|always|never]
                              after a no, moves public numbers that pass through C's secret memory to a public
                              one, the shadow, and judges again (blade-split); always: after a yes, too, and it
-                             is an error if that fails. What is made then is shadow.wasm and a split NAME.wasm
+                             is an error if that fails. What is made then is shadow.wasm and a split
+                             NAME.wasm. Without a recorded run (--record) nothing is tried, and a warning says
+                             so
     --record [EXPORT=]START  a start file whose run is recorded for --split, besides those of --counts and
                              --start; may be given again
     --public OFFSET:SIZE     for --split: these bytes of C's memory are public at the start
@@ -346,14 +348,16 @@ class Driver:
         evidence = None
         if self.asked.start and not is_yes:
             evidence, self.explained_by = after_no(self, told, lines, modules, f"{place}/{self.module}")
-        self.tell(told, lines, modules, f"{place}/{self.module}")
+        told.warnings = [outcome.warning] * bool(outcome.warning)
+        self.tell(told, lines, modules, f"{place}/{self.module}", outcome.remaining)
         if self.asked.native and is_yes:
             self.make_native(f"{place}/{self.module}", modules)
         if is_kept and self.file:
             written_to(self.file, read_file(modules[-1], "module"))
         protects = next(line for line in report.splitlines() if line.startswith("protects "))
         split = f" {outcome.told};" if outcome.told else ""
-        say(f"{self.module}: {text.verdict_text(told.found, (), evidence)};{split} {protects}; "
+        verdict = outcome.verdict(text.verdict_text(told.found, (), evidence))
+        say(f"{self.module}: {verdict};{split} {protects}; "
             f"{text.declared_text(told.found).partition('. So')[0]}")
         for line in summary(evidence, lines) if evidence else ():
             say(f"{self.module}: {line}")
@@ -395,8 +399,9 @@ class Driver:
         if native_of(self.program, made, modules, f"{self.folder}/native", found("clang")):
             raise Stop(BUILD, f"blade-cc: error: {self.module}: blade-native doesn't make an object of it")
 
-    def tell(self, told: diagnostics.Told, lines: Lines, modules: List[str], made: str) -> None:
-        """The places: as text, as JSON and as SARIF."""
+    def tell(self, told: diagnostics.Told, lines: Lines, modules: List[str], made: str,
+             remaining: Optional[splitting.Remaining] = None) -> None:
+        """The places: as text, as JSON and as SARIF. As text only those that remain, if a split was tried."""
         told.level = diagnostics.WARNING if self.asked.no_fail else diagnostics.ERROR
         problems, log = f"{self.folder}/problems.json", f"{self.folder}/{self.module}.sarif"
         image = f"{made}.{self.image_end}"
@@ -406,8 +411,10 @@ class Driver:
         self.put(os.path.basename(problems), sarif.as_json(told, image, modules).encode())
         self.put(os.path.basename(log),
                  sarif.as_sarif(told, image, modules, lines, os.getcwd(), version()).encode())
-        for line in diagnostics.as_text(told, shown(image), self.asked.limit, lines,
-                                        self.asked.everything):
+        for one in told.warnings:
+            say(f"blade-cc: warning: {one}", sys.stderr)
+        for line in (splitting.remaining_text(self, told, remaining) if remaining else
+                     diagnostics.as_text(told, shown(image), self.asked.limit, lines, self.asked.everything)):
             say(line, sys.stderr)
 
 

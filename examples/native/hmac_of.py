@@ -4,7 +4,7 @@ import ctypes
 import sys
 from ctypes import c_char_p, c_int, c_uint32, c_void_p
 
-SECRETS, AT, TAG_SIZE = 1, 131072, 32
+HMAC_MEMORY_HMAC, AT, TAG_SIZE = 1, 131072, 32  # the first as in hmac.h
 
 
 class Hmac:
@@ -32,10 +32,10 @@ class Hmac:
         """The tag of a text."""
         key_at, text_at, tag_at = AT, AT + len(key), AT + len(key) + len(text)
         found = ctypes.create_string_buffer(TAG_SIZE)
-        if not self.library.hmac_write(self.instance, SECRETS, key_at, key + text, len(key + text)):
+        if not self.library.hmac_write(self.instance, HMAC_MEMORY_HMAC, key_at, key + text, len(key + text)):
             raise ValueError("the key and the text are too long")
         end = self.library.hmac_hmac(self.instance, tag_at, key_at, len(key), text_at, len(text), len(text))
-        if end or not self.library.hmac_read(self.instance, SECRETS, tag_at, found, TAG_SIZE):
+        if end or not self.library.hmac_read(self.instance, HMAC_MEMORY_HMAC, tag_at, found, TAG_SIZE):
             raise ValueError(f"the call ended with {end}")
         return found.raw
 

@@ -147,7 +147,7 @@ REFUSALS = [
          HEAD + 'BLADE_SECRET_MEMORY;\n__attribute__((target("bulk-memory"))) void f(char *p, const char *q, '
          'unsigned long n) { __builtin_memcpy(p, q, n); }\n'),
     Case("import", MEMORY, 3,
-         ["the function ask is imported from env, which no module gives", "[blade-import]"],
+         ["the function ask is imported from env (called by f), which no module gives", "[blade-import]"],
          '__attribute__((import_module("env"), import_name("ask"))) int ask(void);\nint '
          'f(void) { return ask(); }\n'),
     Case("unledgered", MEMORY, 3, ["compile and link with --ledger", "[blade-import]"],

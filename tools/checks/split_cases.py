@@ -6,6 +6,7 @@ from __future__ import annotations
 import json
 import os
 import subprocess
+import sys
 from unittest import mock
 from typing import Dict, NamedTuple, Sequence, Tuple
 
@@ -76,6 +77,33 @@ u32 two(struct piece *p, const u8 *data, u32 size) {
 }
 """
 )
+
+# Of a piece and a power: a public count, and a branch on a secret.
+BOTH = """void both(struct piece *p, u8 *out, const u8 *key, u32 size) {
+    begin(p);
+    add(p, out, size);
+    power(out, key);
+}
+"""
+# A count that is checked: the run traps if it is too great.
+ENDS = HEAD + """struct piece { u32 used; u8 bytes[64]; };
+u32 ends(struct piece *p) {
+    if (p->used > 4)
+        __builtin_trap();
+    return p->bytes[p->used];
+}
+"""
+
+# blade-cc with a split that forgets the recorded runs.
+FORGETFUL = """
+import sys
+sys.path.insert(0, sys.argv[1])
+from blade_companions import cc
+from blade_companions.c import splitting
+real = splitting.split
+splitting.split = lambda module, runs, public, told: real(module, [], public, told)
+sys.exit(cc.main(sys.argv[2:]))
+"""
 
 
 class Splits:
@@ -180,8 +208,22 @@ def controls(check: Check) -> None:
             "a secret met" in report and f"{one.name}.c:{one.line} " in report,
             report,
         )
-        splits.cc(f"{one.name}, not recorded", 0, "--split", *words, told="after splitting: ")
+        done = splits.cc(f"{one.name}, not recorded", 0, "--split", *words, told="after splitting: ")
+        untried(splits, one, done)
         trapped(splits, one, contents)
+
+
+def untried(splits: Splits, one: Leaky, done: "subprocess.CompletedProcess[str]") -> None:
+    """A yes of a split that no run tried says so, in each output."""
+    check, told = splits.check, "constant-time yes after splitting, not tried: no run was recorded; none of "
+    check.say(f"{one.name}: not tried, and said so", f"{one.name}: {told}" in done.stdout, done.stdout)
+    warnings = [line for line in done.stderr.splitlines() if line.startswith("blade-cc: warning: --split: ")]
+    check.say(f"{one.name}: a warning", len(warnings) == 1 and "--record START tries it" in warnings[0],
+              done.stderr)
+    places = [json.loads(check.read(f"{one.name}/problems.json"))["warnings"],
+              json.loads(check.read(f"{one.name}/{one.name}.sarif"))["runs"][0]["properties"]["warnings"]]
+    check.say(f"{one.name}: the warning in JSON and SARIF", all(
+        [f"blade-cc: warning: {line}" for line in lines] == warnings for lines in places), places)
 
 
 def trapped(splits: Splits, one: Leaky, contents: Sequence[Tuple[int, bytes]]) -> None:
@@ -219,7 +261,7 @@ def made(check: Check) -> None:
     for size, name in ((3, "three"), (0, "none"), (8, "eight")):
         other(splits, size, name, data, PIECES)
     by_other_tools(splits)
-    splits.cc("without --split nothing of it stays", 1, *words, told="--split keeps such numbers")
+    splits.cc("without --split nothing of it stays", 1, *words, told="--record START tries the split program")
     left = [name for name in ("shadow.wasm", "split.txt") if os.path.exists(check.path(f"piece/{name}"))]
     check.say("no shadow", not left, left)
     splits.cc("both parts recorded", 1, "--split", *short, *long, *words, told="constant-time no")
@@ -257,6 +299,46 @@ def other(splits: Splits, size: int, name: str, data: bytes, modules: Sequence[s
         done.stdout.startswith("split: a public number was not known here: piece.c:"),
         done.stdout + done.stderr,
     )
+
+
+def stops(check: Check) -> None:
+    """A recorded run that doesn't return is no yes; a yes with a recorded run has no warning; of a no, what
+    is gone is counted."""
+    splits = Splits(check)
+    check.write("ends.c", ENDS)
+    words = ["-O1", *SECRET, "--export", "ends", "ends.c", "-o", "ends/"]
+    run = ["--split", "--record"]
+    bad = splits.start("ends.bad", [AT], (AT, bytes([9, 0, 0, 0, 1])))
+    good = splits.start("ends.good", [AT], (AT, bytes([2, 0, 0, 0, 1])))
+    public = ["--public", f"{AT}:4"]
+    done = splits.cc("a recorded run that traps", 1, *run, bad, *public, *words,
+                     told="record a run that returns")
+    check.say("and the verdict is no", "ends: constant-time no: " in done.stdout, done.stdout)
+    done = splits.cc("a recorded run that returns", 0, *run, good, *public, *words,
+                     told="ends: constant-time yes: none of ")
+    check.say("without a warning", "warning" not in done.stderr and "not tried" not in done.stdout
+              and json.loads(check.read("ends/problems.json"))["warnings"] == [], done.stdout + done.stderr)
+    check.write("both.c", PIECE + LEAKY[2].source.replace(HEAD, "") + BOTH)
+    both = splits.start("both.start", [AT, AT + 128, AT + 160, 4], (AT + 128, bytes(range(1, 33))),
+                        (AT + 160, bytes(range(0xA0, 0xC0))))
+    done = splits.cc("a leak beside a count", 1, *run, both, "-O1", *SECRET, "--export", "both", "both.c",
+                     "-o", "both/", told=" gone after splitting (problems.json has all)")
+    check.say("the leak is told, and not the count", "p->used" not in done.stderr and "if (key[i] & 128)"
+              in done.stderr, done.stderr)
+    check.say("and how much remains", " violations remain of " in done.stdout, done.stdout)
+    wrong(splits)
+
+
+def wrong(splits: Splits) -> None:
+    """If the tool itself is wrong, and the split program traps in a recorded run, the verdict stays no."""
+    one = LEAKY[0]
+    done = splits.run(sys.executable, "-c", FORGETFUL, COMPANIONS, "-O1", *SECRET, "--export", one.name,
+                      f"{one.name}.c", "-o", "wrong/", "--split", "--record", f"{one.name}.start")
+    told = (f"the run from {one.name}.start doesn't return: split: a public number was not known here: "
+            f"{one.name}.c:{one.line} {one.name}")
+    splits.check.say("a recorded run that traps in the split program alone", done.returncode == 1
+                     and told in done.stderr and f"{one.name}: constant-time no: " in done.stdout,
+                     done.stdout + done.stderr)
 
 
 def words(check: Check) -> None:
@@ -303,5 +385,5 @@ def algebra(check: Check) -> None:
 
 
 def splits(check: Check) -> None:
-    for one in (algebra, routines, controls, made, words):
+    for one in (algebra, routines, controls, made, stops, words):
         one(check)

@@ -15,7 +15,8 @@ from .inputs import Input, inputs_in, lines_of, text_of
 from .objects import given_by
 from .strangers import left_out_words, of_inputs
 from .compiling import TARGET, Compiler
-from .missing import about_symbols, callers_of
+from .elsewhere import elsewhere
+from .missing import SOME, about_symbols, callers_of
 from .tools import INCLUDE, Ran, Runner, found, written_to
 from ..formats.memories import HEAP_BASE
 from ..formats.module import FUNCTION, Module, read_module
@@ -155,8 +156,9 @@ class Builder:
         """Why the linker refuses the objects. What they lack is told once, with who calls it."""
         told = [line for line in done.errors.splitlines() if not missing or "undefined symbol: " not in line]
         if missing:
-            told += about_symbols(sorted(missing), self.callers(),
-                                  os.path.exists(self.asked.wasi_library()))
+            names = sorted(missing)
+            told += about_symbols(names, self.callers(), os.path.exists(self.asked.wasi_library()),
+                                  elsewhere(names[:SOME], self.asked.sources, self.asked.flags))
         if is_small:
             told.append("blade-cc: note: give more pages by --memory PAGES")
         return Stop(BUILD, *told)

@@ -4,11 +4,12 @@ from __future__ import annotations
 
 import os
 import re
-from typing import Dict, Iterator, List, Mapping, NamedTuple, Sequence
+from typing import Dict, Iterator, List, Mapping, NamedTuple, Optional, Sequence
 
 from ..formats.module import FUNCTION, Module
 from ..printing import called
 from .callers import called_in
+from .elsewhere import Place as Found, help_of
 
 # The headers that wasi-libc has, but for those of networks and devices.
 STANDARD = frozenset(
@@ -37,6 +38,10 @@ SOME = 12  # so many names are told in a row
 FEW = 3  # so many callers of a name, and so many folders
 FILES = 20_000  # the most that are looked through for a header
 TEMPLATES = (".in", ".cmake", ".cmake.in", ".h.in", ".in.h")
+# A folder with one of these files is a project, and its folders belong together.
+BUILDS = frozenset("configure configure.ac configure.in CMakeLists.txt Makefile makefile GNUmakefile "
+                   "Makefile.am Makefile.in meson.build SConstruct BUILD BUILD.bazel".split())
+EMULATED = re.compile(r"-(D_WASI_EMULATED_[A-Z_]+)")
 MISSING = re.compile(r"^(.*?):\d+:(?:\d+:)? fatal error: '([^'\n]+)' file not found", re.M)
 
 
@@ -47,10 +52,19 @@ class Place(NamedTuple):
     templates: List[str]
 
 
-def looked_up(name: str) -> Place:
-    """Where a header, or what it is made of, stands below the current folder."""
+def top_of(includer: str) -> str:
+    """The folder below the current one that holds the project of a file: no other project is looked through.
+    It is the current folder itself if the file is in none below it, or if the current folder is the
+    project."""
+    parts = os.path.relpath(includer or os.curdir).split(os.sep)
+    is_below = len(parts) > 1 and parts[0] != os.pardir
+    return parts[0] if is_below and BUILDS.isdisjoint(os.listdir(".")) else os.curdir
+
+
+def looked_up(name: str, top: str) -> Place:
+    """Where a header, or what it is made of, stands below a folder."""
     place, files = Place([], []), 0
-    for folder, folders, names in os.walk("."):
+    for folder, folders, names in os.walk(top):
         folders[:] = sorted(one for one in folders if not one.startswith("."))
         files += 1 + len(names)
         if files > FILES:
@@ -71,7 +85,7 @@ def templates_of(name: str) -> List[str]:
 
 def nearest(folders: Sequence[str], includer: str) -> List[str]:
     """The folders, those first that have most folders at their beginning in common with the file that
-    includes the header: another project below the current folder may have a header of this name, too."""
+    includes the header."""
     parts = os.path.dirname(os.path.relpath(includer or os.curdir)).split(os.sep)
     return sorted(folders, key=lambda one: -len(os.path.commonprefix([parts, one.split(os.sep)])))
 
@@ -87,7 +101,7 @@ def header_text(name: str, includer: str, has_library: bool) -> str:
     if name in UNIX:
         return (f"{name} is a header of Unix, which wasi-libc hasn't: leave out the file, or what includes "
                 "the header")
-    place = looked_up(name)
+    place = looked_up(name, top_of(includer))
     if place.folders:
         words = " or ".join(f"-I {folder}" for folder in nearest(place.folders, includer)[:FEW])
         return f"{name} is a header of the project: say {words}"
@@ -96,8 +110,10 @@ def header_text(name: str, includer: str, has_library: bool) -> str:
         word = "--config-h" if name == "config.h" else f"--config-h={name}"
         return (f"{name} is generated{of}: run configure (or cmake) first and name its folder by -I, or say "
                 f"{word}, which makes an empty one and shows where")
+    empty = (f", or say --config-h={name}, which makes an empty one and shows where"
+             if name.endswith(".h") and ".." not in name and not name.startswith("/") else "")
     return (f"{name} is a header of the project or of another library: -I FOLDER names where it is; if a "
-            "script makes it, run that first")
+            f"script or the build makes it, run that first{empty}")
 
 
 def about_headers(errors: str, has_library: bool) -> List[str]:
@@ -105,11 +121,14 @@ def about_headers(errors: str, has_library: bool) -> List[str]:
     includers: Dict[str, str] = {}
     for includer, name in MISSING.findall(errors):
         includers.setdefault(name, includer)
-    told = [f"{header_text(name, includer, has_library)} [blade-header]"
+    lines = [f"{header_text(name, includer, has_library)} [blade-header]"
             for name, includer in includers.items()]
+    for macro in dict.fromkeys(EMULATED.findall(errors)):
+        lines.append(f"-{macro} is right here: it gives the types and the constants. Leave out the library "
+                     "that is named with it: a call of its functions stays undefined [blade-header]")
     if "No available targets" in errors or "unable to create target" in errors:
-        told.append("this clang lacks WebAssembly: apt-get install clang")
-    return [f"blade-cc: note: {one}" for one in told]
+        lines.append("this clang lacks WebAssembly: apt-get install clang")
+    return [f"blade-cc: note: {one}" for one in lines]
 
 
 def callers_of(module: Module) -> Dict[str, List[str]]:
@@ -137,7 +156,16 @@ def undefined(names: Sequence[str], callers: Mapping[str, Sequence[str]]) -> str
     return f"blade-cc: error: no file that was given defines {', '.join(told)}{more} [blade-undefined]"
 
 
-def remedies(names: Sequence[str], has_library: bool) -> Iterator[str]:
+def by_place(names: Sequence[str], places: Mapping[str, Sequence[Found]]) -> Iterator[str]:
+    """Names with the files that define them: those of one file in a row."""
+    rows: Dict[tuple, List[str]] = {}
+    for name in names:
+        rows.setdefault(tuple((one.path, one.is_given) for one in places[name]), []).append(name)
+    for row in rows.values():
+        yield f"{several(row, SOME)}: {help_of(places[row[0]])}"
+
+
+def remedies(names: Sequence[str], has_library: bool, places: Mapping[str, Sequence[Found]]) -> Iterator[str]:
     """What helps, by the kinds of the names."""
     rest = list(names)
 
@@ -149,6 +177,8 @@ def remedies(names: Sequence[str], has_library: bool) -> Iterator[str]:
     wide = taken(r"__\w*?(mul|div|mod|ashl|ashr|lshr)\w*t[if]\d|__multi3")
     floats = taken(r"__\w+(sf|df|tf)\w*\d?")
     library = [] if has_library else taken("|".join(sorted(OF_LIBRARY)))
+    known = taken("|".join(map(re.escape, places))) if places else []
+    yield from by_place(known, places)
     for group, text in (
             (library, "of the C library: apt-get install wasi-libc has them (blade-cc itself has memcpy, "
              "memmove, memset and memcmp)"),
@@ -160,8 +190,10 @@ def remedies(names: Sequence[str], has_library: bool) -> Iterator[str]:
             yield f"{several(group, SOME)}: {text}"
 
 
-def about_symbols(missing: Sequence[str], callers: Mapping[str, Sequence[str]],
-                  has_library: bool) -> List[str]:
-    """An error with all names that the linker doesn't find and who calls them, and one note on what helps."""
+def about_symbols(missing: Sequence[str], callers: Mapping[str, Sequence[str]], has_library: bool,
+                  places: Optional[Mapping[str, Sequence[Found]]] = None) -> List[str]:
+    """An error with all names that the linker doesn't find and who calls them, and one note on what helps.
+    The places are those of files that define a name."""
     names = sorted(missing)
-    return [undefined(names, callers), f"blade-cc: note: {'; '.join(remedies(names, has_library))}"]
+    helps = "; ".join(remedies(names, has_library, places or {}))
+    return [undefined(names, callers), f"blade-cc: note: {helps}"]

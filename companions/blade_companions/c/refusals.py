@@ -2,11 +2,13 @@
 Licence: public domain (CC0)."""
 from __future__ import annotations
 
-from typing import List, NamedTuple, Optional
+from typing import Dict, List, NamedTuple, Optional, Set
 
+from .callers import called_in
+from ..printing import called
 from ..formats.instructions import BLOCKS, BR_TABLE, END, read_instruction, read_locals
 from ..formats.reading import Reader
-from ..formats.module import FUNCTION, GLOBAL, MEMORY, TABLE, Import, Module
+from ..formats.module import FUNCTION, GLOBAL, MEMORY, TABLE, Module
 
 FLOAT_TYPES = (0x7C, 0x7D)
 FLOATS = frozenset([0x2A, 0x2B, 0x38, 0x39, 0x43, 0x44, *range(0x5B, 0x67), *range(0x8B, 0xA7),
@@ -17,6 +19,8 @@ OTHERS = {0xFD: "a vector", 0xFE: "an atomic access", 0x12: "a tail call", 0x13:
           0x25: "a table access", 0x26: "a table access", 0x1C: "a select with a type", 0x06: "an exception",
           0x07: "an exception", 0x08: "an exception"}
 DENSE = 200  # a switch of more cases is the likely reason of deep nesting
+AROUND, WRAPPED = ("__wasm_call_dtors", "__wasm_call_ctors"), ".command_export"  # the linker's own functions
+NAMED = 4  # so many functions of a way are named
 SORTS = {FUNCTION: "function", TABLE: "table", MEMORY: "memory", GLOBAL: "global"}
 
 
@@ -84,7 +88,7 @@ def refusal(module: Module, said: str) -> Refusal:
     if kind == "limit":
         return above(module, *rest.split()[:2])
     if kind == "link" and rest.endswith(("unknown", "mismatch")):
-        return not_given(module.imports[int(rest.split()[-2])], rest.endswith("mismatch"))
+        return not_given(module, int(rest.split()[-2]), rest.endswith("mismatch"))
     return Refusal(-1, -1, "see docs/CLI.md, exit statuses [blade-refused]")
 
 
@@ -129,13 +133,55 @@ def above(module: Module, quantity: str, value: str) -> Refusal:
     return Refusal(-1, -1, f"{quantity} {value} is above the limit: {remedy} [blade-limit]")
 
 
-def not_given(one: Import, is_mismatch: bool) -> Refusal:
+def users_of(module: Module, number: int) -> str:
+    """Who calls an imported function, and by which way an exported one comes to it."""
+    one = module.imports[number]
+    if one.sort != FUNCTION:
+        return ""
+    index = sum(other.sort == FUNCTION for other in module.imports[:number])
+    callers: Dict[int, List[int]] = {}
+    for caller, functions in called_in(module).items():
+        for function in functions:
+            callers.setdefault(function, []).append(caller)
+    direct = [called(module.function_name(caller)) for caller in callers.get(index, [])]
+    if not direct:
+        return ""
+    aside = {at for at in callers if module.function_name(at) in AROUND}
+    found = way_to(module, index, callers, aside) or way_to(module, index, callers, set())
+    way = [called(name) for name in map(module.function_name, found) if not name.endswith(WRAPPED)]
+    short = [*way[:NAMED], "..", way[-1]] if len(way) > NAMED + 1 else way
+    told = f", by the way {' > '.join(short)}" if len(way) > 2 else ""
+    more = f" and {len(direct) - NAMED} more" if len(direct) > NAMED else ""
+    return f" (called by {', '.join(direct[:NAMED])}{more}{told})"
+
+
+def way_to(module: Module, index: int, callers: Dict[int, List[int]], aside: Set[int]) -> List[int]:
+    """The shortest way of calls from an exported function, without some; nothing if there is none."""
+    exported = {at for (sort, _), at in module.exports.items() if sort == FUNCTION}
+    behind, work = {index: -1}, [index]
+    for function in work:
+        if function in exported:
+            way = []
+            while function >= 0:
+                way.append(function)
+                function = behind[function]
+            return way
+        for caller in callers.get(function, []):
+            if caller not in behind and caller not in aside:
+                behind[caller] = function
+                work.append(caller)
+    return []
+
+
+def not_given(module: Module, number: int, is_mismatch: bool) -> Refusal:
+    one = module.imports[number]
     if one.module in ("ledger", "vault"):
         return Refusal(-1, -1, f"the {SORTS[one.sort]} {one.name} is imported from {one.module}: "
                        f"compile and link with --{one.module} [blade-import]")
     why = "has another type there" if is_mismatch else "no module gives"
     more = (": wasi-libc asks the system for it, for input, output or the clock"
             if one.module.startswith("wasi") else "")
-    return Refusal(-1, -1, f"the {SORTS[one.sort]} {one.name} is imported from {one.module}, "
-                   f"which {why}{more}: give a file that defines it, or leave out what "
-                   "uses it [blade-import]")
+    users = users_of(module, number)
+    return Refusal(-1, -1, f"the {SORTS[one.sort]} {one.name} is imported from {one.module}{users}, "
+                   f"which {why}{more}: give a file that defines it, or leave out "
+                   "what uses it [blade-import]")

@@ -5,12 +5,15 @@ from __future__ import annotations
 import os
 import sys
 from dataclasses import dataclass
-from typing import TYPE_CHECKING, List, Optional, Sequence
+from typing import TYPE_CHECKING, Iterator, List, Optional, Sequence, Tuple
 
 from .arguments import REFUSED, USAGE, Asked, Stop
+from .lines import Lines
+from .paths import shown
 from .tools import HERE, written_to
 from ..formats.image import read_image
 from ..formats.labels import entries_of
+from ..formats.lowering import lower
 from ..formats.module import Module, read_module
 from ..formats.reading import Bad, read_file
 from ..formats.running import Run, counts, read_start
@@ -21,6 +24,8 @@ from ..splitting.parts import whole_parts_of
 from ..splitting.report import report_of, summary
 from ..splitting.shadow import NAME
 from ..splitting.starts import split_start
+from ..splitting.trapping import trapped
+from ..verdict.diagnostics import Problem, Told, as_text
 from ..verdict.flow import find
 
 if TYPE_CHECKING:
@@ -32,8 +37,20 @@ STEPS = "4000000000"  # the most of a run that is compared
 COUNTED = 2_000_000  # the most commands of a run whose cost is told
 HINT = (
     "note: a public number that passes through the secret memory is secret there; --split keeps such numbers "
-    "in a public memory, if that is all (docs/from-no-to-yes.md)"
+    "in a public memory, if that is all, and --record START tries the split program by a run "
+    "(docs/from-no-to-yes.md)"
 )
+UNTRIED = "constant-time yes after splitting, not tried: no run was recorded"
+RETURNED = "returned"
+
+
+@dataclass
+class Remaining:
+    """The violations of split modules that aren't constant-time."""
+
+    told: Told
+    lines: Lines
+    image: str
 
 
 @dataclass
@@ -45,6 +62,12 @@ class Outcome:
     report: str
     verified: str
     told: str = ""
+    warning: str = ""
+    remaining: Optional[Remaining] = None
+
+    def verdict(self, words: str) -> str:
+        """The verdict's words. A yes that no run tried says so."""
+        return words.replace("constant-time yes:", f"{UNTRIED};", 1) if self.warning else words
 
 
 def is_yes(report: str) -> bool:
@@ -163,14 +186,66 @@ def hardened(driver: "Driver", plain: Outcome, made: Split, starts: Sequence[Nam
         )
     except Stop as stop:
         why = "\n".join(stop.lines)
-    if why:
-        driver.asked.counts = before
-        os.remove(modules[0])
-        for name in kept:
-            os.replace(f"{room}/plain/{name}", f"{driver.aside}/{name}")
-        return given_up(driver, plain, why)
-    outcome.told = told(driver, made, starts, f"{room}/plain/{driver.module}.img")
-    return outcome
+    if not why:
+        outcome.told = told(driver, made, starts, f"{room}/plain/{driver.module}.img")
+        outcome.warning = "" if starts else untried(made)
+        return outcome
+    driver.asked.counts = before
+    put_back(driver, kept)
+    if outcome is not plain and not is_yes(outcome.report):
+        leave(driver, plain, outcome)
+    return given_up(driver, plain, why)
+
+
+def untried(made: Split) -> str:
+    return (
+        f"--split: no run was recorded, so nothing was tried: {summary(made)}, and the program traps "
+        "wherever one of them is not known; --record START tries it"
+    )
+
+
+def put_back(driver: "Driver", kept: Sequence[str]) -> None:
+    """The plain modules go back to their place, and the split ones to build/split/."""
+    room = f"{driver.folder}/build"
+    os.makedirs(f"{room}/split", exist_ok=True)
+    for name in [f"{NAME}.wasm", *kept]:
+        if os.path.exists(f"{driver.aside}/{name}"):
+            os.replace(f"{driver.aside}/{name}", f"{room}/split/{name}")
+    for name in kept:
+        os.replace(f"{room}/plain/{name}", f"{driver.aside}/{name}")
+
+
+def leave(driver: "Driver", plain: Outcome, outcome: Outcome) -> None:
+    """What is told of a no: the violations that remain in the split modules."""
+    stem = f"{driver.folder}/build/split/{driver.module}"
+    modules = [f"{driver.folder}/build/split/{os.path.basename(path)}" for path in outcome.modules]
+    found, lines, differ = driver.explained(modules, stem, outcome.report)
+    if not differ:
+        before = len(find(read_image(read_file(f"{driver.aside}/{driver.module}.img", "image"))).refused)
+        plain.told = f"after splitting: {len(found.found.refused)} violations remain of {before}"
+        plain.remaining = Remaining(found, lines, shown(f"{stem}.img"))
+
+
+def key_of(one: Problem) -> Tuple[object, ...]:
+    """What a violation is known by in both modules."""
+    line = one.line
+    place = (line.path, line.number, line.column) if line.number else (one.function,)
+    return (one.rule.name, *place)
+
+
+def remaining_text(driver: "Driver", plain: Told, remaining: Remaining) -> Iterator[str]:
+    """The violations of the split modules, with what a run showed at the same places, and how many others the
+    module has."""
+    left, asked = remaining.told, driver.asked
+    left.level = plain.level
+    observed = {key_of(one): plain.observed[one.position] for one in plain.problems
+                if one.position in plain.observed}
+    left.observed = {one.position: observed[key_of(one)] for one in left.problems if key_of(one) in observed}
+    yield from as_text(left, remaining.image, asked.limit, remaining.lines, asked.everything)
+    gone = len({key_of(one) for one in plain.problems} - {key_of(one) for one in left.problems})
+    if gone:
+        verb = "is" if gone == 1 else "are"
+        yield f"{remaining.image}: note: {gone} more {verb} gone after splitting (problems.json has all)"
 
 
 def counted_starts(driver: "Driver", made: Split, starts: Sequence[Named], base: str) -> List[str]:
@@ -186,7 +261,8 @@ def counted_starts(driver: "Driver", made: Split, starts: Sequence[Named], base:
 def told(driver: "Driver", made: Split, starts: Sequence[Named], plain: str) -> str:
     """The verdict's words, and what the split costs, in the report."""
     refused = len(find(read_image(read_file(plain, "image"))).refused)
-    lines = [f"after splitting: {summary(made)}; without it {refused} violations"]
+    more = "" if starts else ", and the program traps wherever one is not known (--record START tries it)"
+    lines = [f"after splitting: {summary(made)}{more}; without it {refused} violations"]
     for number, one in enumerate(starts):
         cost = cost_of(driver, plain, one, f"{driver.folder}/build/start{number}")
         lines.append(
@@ -213,8 +289,8 @@ def cost_of(driver: "Driver", plain: str, one: Named, start: str) -> Optional[st
 
 
 def differs(driver: "Driver", plain: str, starts: Sequence[Named], base: str) -> str:
-    """Whether a recorded run ends otherwise than that of the module as it was: by what it returns, and by all
-    of C's memory."""
+    """Why the recorded runs don't try the split program: one doesn't return, or it ends otherwise than that
+    of the module as it was, by what it returns, and by all of C's memory."""
     for number, one in enumerate(starts):
         written_to(f"{base}-plain", plain_start(one).encode())
         entry = f"{driver.module}/{one.export}"
@@ -225,9 +301,24 @@ def differs(driver: "Driver", plain: str, starts: Sequence[Named], base: str) ->
                 (f"{driver.aside}/{driver.module}.img", f"{base}{number}"),
             )
         ]
+        if not ends[0].startswith(RETURNED):
+            return (
+                f"the run from {one.name} ends with `{ends[0].partition(chr(10))[0]}` without a split, too, "
+                "so it tries nothing: record a run that returns"
+            )
+        if not ends[1].startswith(RETURNED):
+            return f"the run from {one.name} doesn't return: {stopped(driver, entry, f'{base}{number}')}"
         if of_memory(ends[0], 0) != of_memory(ends[1], 1):
             return f"the run from {one.name} doesn't end as that of the module as it was"
     return ""
+
+
+def stopped(driver: "Driver", entry: str, start: str) -> str:
+    """Where a run of the split program trapped, by its line of C."""
+    modules = [f"{driver.aside}/{name}.wasm" for name in (NAME, driver.module)]
+    image = read_image(read_file(f"{driver.aside}/{driver.module}.img", "image"))
+    lines = Lines(lower([read_module(path) for path in modules]))
+    return trapped(image, lines, entry, read_start(read_file(start, "start").decode()))
 
 
 def of_memory(outcome: str, memory: int) -> List[str]:

@@ -1,10 +1,14 @@
 """NAME.h: what a C or C++ program sees of a translated image. Licence: public domain (CC0)."""
 from __future__ import annotations
 
-from typing import List, NamedTuple, Sequence
+from typing import Dict, List, NamedTuple, Sequence, Tuple
 
 from .emission import KINDS, Emission
+from .names import identifier, memory_names
 from .operators import C_TYPES
+from .origin import ACCESSORS
+
+Memories = Sequence[Tuple[str, str]]
 
 
 class Export(NamedTuple):
@@ -61,18 +65,13 @@ const char *{name}_end_text({name}_end end);
 """
 
 
-def accessors(emission: Emission) -> str:
+def accessors(emission: Emission, told: Memories) -> str:
     """What reads and writes memories and globals."""
     name, globals_ = emission.name, len(emission.image.first_globals)
-    memories = [
-        f"   memory {number}: {one.pages} to {one.reserve} pages{', secret' if one.is_secret else ''}"
-        for number, one in enumerate(emission.image.memories)
-    ]
-    listed = "\n".join(memories) or "   no memory"
     return f"""\
-/* Memories are read and written by offsets. If not all bytes are in the memory, the answer is 0, and nothing
-   is done.
-{listed} */
+/* Memories are read and written by their numbers and by offsets. If not all bytes are in the memory, the
+   answer is 0, and nothing is done. */
+{memories(emission, told)}
 uint32_t {name}_pages(const {name} *m, uint32_t memory);
 int {name}_read(const {name} *m, uint32_t memory, uint32_t offset, void *to, uint32_t size);
 int {name}_write({name} *m, uint32_t memory, uint32_t offset, const void *from, uint32_t size);
@@ -83,12 +82,40 @@ int {name}_set_global({name} *m, uint32_t global, uint64_t value);
 """
 
 
-def header(emission: Emission, exports: List[Export], verdict: str = "not verified") -> str:
-    """The text of NAME.h."""
+def memories(emission: Emission, told: Memories) -> str:
+    """The memories: a constant for each, by its module's name, if the modules are known."""
+    lines = []
+    names = memory_names([module for module, _ in told])
+    for number, one in enumerate(emission.image.memories):
+        size = f"{one.pages} to {one.reserve} pages" if one.pages != one.reserve else f"{one.pages} pages"
+        text = f"{size}{', secret' if one.is_secret else ''}"
+        if number < len(told):
+            module, sentence = told[number]
+            text = f"of {identifier(module)}.wasm: {text}{'; ' * bool(sentence)}{sentence}"
+            lines.append(f"#define {emission.name.upper()}_MEMORY_{names[number]} {number} /* {text} */")
+        else:
+            lines.append(f"/* memory {number}: {text} */")
+    return "\n".join(lines) or "/* no memory */"
+
+
+def declarations(emission: Emission, exports: Sequence[Export]) -> str:
+    """The functions of the user's modules, and behind them those of the accessors."""
+    by_module: Dict[str, List[str]] = {"": []}
+    for one in exports:
+        module = one.origin.partition("/")[0]
+        by_module.setdefault(module if module in ACCESSORS else "", []).append(
+            f"/* {one.origin}{secret_words(emission, one)} */\n{heading(emission, one)};")
+    own, lines = by_module.pop(""), []
+    for module, found in by_module.items():
+        lines += [f"\n/* Functions of {module}.wasm, used by the module itself. */"] * bool(own) + found
+    return "\n".join(own + lines)
+
+
+def header(emission: Emission, exports: List[Export], verdict: str = "not verified",
+           told: Memories = ()) -> str:
+    """The text of NAME.h. Of each memory its module and a sentence are told, if the modules are known."""
     name, upper = emission.name, emission.name.upper()
-    functions = "\n".join(
-        f"/* {one.origin}{secret_words(emission, one)} */\n{heading(emission, one)};" for one in exports
-    )
+    functions = declarations(emission, exports)
     return f"""/* Made by blade-native: {verdict}. */
 #ifndef {upper}_H
 #define {upper}_H
@@ -101,7 +128,7 @@ extern "C" {{
 {ends(name)}
 {functions}
 
-{accessors(emission)}
+{accessors(emission, told)}
 #ifdef __cplusplus
 }}
 #endif

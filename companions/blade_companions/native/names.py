@@ -51,6 +51,17 @@ def without_module(names: List[bytes]) -> List[bytes]:
     return short if len(set(short)) == len(names) else names
 
 
+def memory_names(modules: List[str]) -> List[str]:
+    """The names of memories by those of their modules, each once."""
+    taken: Dict[str, int] = {}
+    found = []
+    for module in modules:
+        word = identifier(module).upper()
+        taken[word] = taken.get(word, 0) + 1
+        found.append(word if taken[word] == 1 else f"{word}_{taken[word]}")
+    return found
+
+
 def export_names(exports: List[Tuple[bytes, int]]) -> List[Tuple[str, int, str]]:
     """Of each export its name in C without the prefix, its function, and its own name as it can be
     printed."""

@@ -2,23 +2,30 @@
 (CC0)."""
 from __future__ import annotations
 
-from typing import Dict, List, Sequence
+from typing import Dict, List, Sequence, Tuple
 
 from ..c.dwarf import subprograms
 from ..c.lines import Lines
 from ..formats.image import Image
 from ..formats.lowering import LinkedFunction, lower
-from ..formats.module import Module, read_module
+from ..formats.memories import layout_of
+from ..formats.module import MEMORY, Module, read_module
 from ..formats.reading import Bad
+from ..start import HEAP
 from ..verdict.compare import positions_differ
 from .names import is_parameter
+
+# The modules of accessors, and what is in their memories.
+ACCESSORS = {"ledger": "public numbers, each at its address in C's memory; the module itself writes them",
+             "vault": "secrets, each at its address in C's memory"}
 
 
 class Origin:
     """The modules of an image. Modules that would be lowered to other commands are refused."""
 
     def __init__(self, image: Image, paths: Sequence[str]) -> None:
-        self.functions: List[LinkedFunction] = lower([read_module(path) for path in paths]) if paths else []
+        self.modules = [read_module(path) for path in paths]
+        self.functions: List[LinkedFunction] = lower(self.modules) if paths else []
         differ = positions_differ(image, self.functions) if paths else []
         if differ:
             raise Bad(f"the image wasn't made from this module: {differ[0]}")
@@ -29,6 +36,11 @@ class Origin:
         """The line of C of a position, if it is known."""
         self.lines.ask([position])
         return self.lines.place(position)
+
+    def memories(self) -> List[Tuple[str, str]]:
+        """Of each memory the module's name and a sentence."""
+        return [(module.name, sentence_of(module)) for module in self.modules
+                for _ in range(module.memories - len(module.imported(MEMORY)))]
 
     def parameters(self, number: int, count: int) -> List[str]:
         """The names of a function's parameters: those of C, or p0, p1 and so on if there is no such name that
@@ -53,6 +65,20 @@ class Origin:
             is_plain = len(params) == len(types) and not any(param.is_struct for param in params)
             return {index: param.name for index, param in enumerate(params)} if is_plain else {}
         return {param.local: param.name for param in params if param.local is not None}
+
+
+def sentence_of(module: Module) -> str:
+    """What is in a module's memory."""
+    if module.name in ACCESSORS:
+        return ACCESSORS[module.name]
+    try:
+        layout = layout_of(module)
+    except Bad:
+        return ""
+    if not layout.is_known or not 0 < layout.free < layout.end or not HEAP.isdisjoint(module.names.values()):
+        return ""
+    return (f"C's stack and data are in the bytes 0 to {layout.free - 1:,}, and those from {layout.free:,} "
+            f"to {layout.end - 1:,} are free")
 
 
 def described(module: Module) -> list:

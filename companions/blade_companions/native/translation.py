@@ -268,4 +268,5 @@ def translate(
     for export in exports:
         lines += entry(emission, export)
     lines += life(emission) + accessors(emission)
-    return Translation("\n".join(lines), header(emission, exports, verdict))
+    return Translation("\n".join(lines), header(emission, exports, verdict,
+                                                 origin.memories() if origin else ()))

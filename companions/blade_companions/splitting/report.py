@@ -118,8 +118,8 @@ def unreached(split: Split, places: Places, has_runs: bool) -> List[str]:
     traps."""
     if not has_runs:
         return [
-            "no run was recorded (--start): each load that a branch or an address needs is taken as public, "
-            "and the program traps if it isn't"
+            "no run was recorded (blade-cc --record START, blade-split --start START): each load that a "
+            "branch or an address needs is taken as public, and the program traps if it isn't"
         ]
     recorded, flow = split.recorded, split.kinds.flow
     loads = [place for place in split.kinds.checked if place not in recorded.reached]

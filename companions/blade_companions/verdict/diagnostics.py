@@ -10,6 +10,7 @@ from ..c.dwarf import subprograms
 from .flow import CONDITION, DEMANDED, DIVISION, LOAD_ADDRESS, STORE_ADDRESS, STORED, End, Findings, Origin
 from .guesses import LEAK, UNKNOWN, Guess, Guesser, settle
 from .libraries import Owners
+from .uses import Uses
 from ..c.lines import NOWHERE, Line, Lines
 from ..c.paths import shown
 from ..formats.certificate import Protect
@@ -108,6 +109,7 @@ class Told:
     observed: Dict[int, str] = field(default_factory=dict)
     witnessed: Optional[int] = None  # the position of the problem that a witness shows
     level: str = WARNING  # what a violation is called
+    warnings: List[str] = field(default_factory=list)  # of what the verdict rests on
 
     def also(self, one: Problem) -> str:
         """What is shown of a problem, behind its text."""
@@ -322,11 +324,13 @@ def problem_text(one: Problem) -> str:
 def as_text(told: Told, image: str, limit: int, lines: Lines, everything: bool = True) -> Iterator[str]:
     """In the form of compilers: file:line:column: error: .. [blade-..], with notes for the way. The user's
     own sources come first; unless everything is asked for, a library is one line."""
-    own, libraries = Owners(lines.sources).parted(told.problems)
+    owners = Owners(lines.sources)
+    own, libraries = owners.parted(told.problems)
     others = [one for library in libraries for one in library.problems]
     yield from violations(told, own + others if everything else own, image, limit, lines)
-    for library in [] if everything else libraries:
-        yield f"{image}: note: {library.text()}"
+    if libraries and not everything:
+        uses = Uses(told.found.image, lines, owners)
+        yield from (f"{image}: note: {library.text(uses.text)}" for library in libraries)
     hidden = set() if everything else {one.line.path for one in others}
     if len(told.problems) > MANY or not own:
         yield from beginnings(told, [one for one in told.sources if one.line.path not in hidden], image,

@@ -3,7 +3,7 @@ from __future__ import annotations
 
 import os
 import re
-from typing import TYPE_CHECKING, Dict, List, NamedTuple, Sequence, Tuple
+from typing import TYPE_CHECKING, Callable, Dict, List, NamedTuple, Sequence, Tuple
 
 from ..c.lines import Line
 from ..c.paths import shown
@@ -28,10 +28,16 @@ class Library(NamedTuple):
     name: str
     problems: List["Problem"]
 
-    def text(self) -> str:
-        """They are counted at their places, as in the list of all."""
-        number, functions = len(self.problems), sorted({one.function for one in self.problems})
-        names = f": {', '.join(functions)}" if len(functions) <= NAMED else ""
+    def text(self, called: Callable[[List[int]], str]) -> str:
+        """They are counted at their places, as in the list of all; a few functions are named, with what is
+        known of the lines that call them."""
+        number = len(self.problems)
+        places: Dict[str, List[int]] = {}
+        for one in self.problems:
+            places.setdefault(one.function, []).append(one.position)
+        functions = sorted(places)
+        names = (f": {'; '.join(name + called(places[name]) for name in functions)}"
+                 if len(functions) <= NAMED else "")
         told = (f"{self.name}: {number} violation{'s' * (number != 1)} in {len(functions)} "
                 f"function{'s' * (len(functions) != 1)}{names} "
                 f"(--all shows {'them' if number != 1 else 'it'})")

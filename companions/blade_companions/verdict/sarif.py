@@ -47,7 +47,8 @@ def as_json(told: Told, image: str, modules: Sequence[str]) -> str:
                 for step, weight in zip(told.protects, told.weights)]
     whole = {"format": "blade-explain 1", "image": image, "modules": list(modules),
              "constant-time": found.is_constant_time, "declared": secrets, "ends": len(found.ends),
-             "refused": len(found.refused), "problems": problems, "sources": sources, "protects": protects}
+             "refused": len(found.refused), "problems": problems, "sources": sources, "protects": protects,
+             "warnings": told.warnings}
     return json.dumps(whole, indent=1) + "\n"
 
 
@@ -148,7 +149,7 @@ def as_sarif(told: Told, image: str, modules: Sequence[str], lines: Lines, root:
         "originalUriBaseIds": {"SRCROOT": {"uri": "file://" + quoted(root.rstrip("/")) + "/"}},
         "columnKind": "unicodeCodePoints", "invocations": [{"executionSuccessful": True}], "results": results,
         "properties": {"constant-time": told.found.is_constant_time, "ends": len(told.found.ends),
-                       "refused": len(told.found.refused)},
+                       "refused": len(told.found.refused), "warnings": told.warnings},
     }
     return json.dumps({"$schema": SCHEMA, "version": "2.1.0", "runs": [run]}, indent=1) + "\n"
 

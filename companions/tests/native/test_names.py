@@ -4,7 +4,7 @@ import unittest
 from typing import List
 
 from outcomes import export_names
-from blade_companions.native.names import identifier, prefix_of
+from blade_companions.native.names import identifier, memory_names, prefix_of
 
 
 class Names(unittest.TestCase):
@@ -23,6 +23,9 @@ class Names(unittest.TestCase):
 
     def test_what_the_tool_defines(self) -> None:
         self.assertEqual(self.words(b"m/new", b"m/free"), ["new_2", "free_2"])
+
+    def test_memories(self) -> None:
+        self.assertEqual(memory_names(["ledger", "x-y", "ledger", "1"]), ["LEDGER", "X_Y", "LEDGER_2", "N1"])
 
     def test_prefixes(self) -> None:
         self.assertEqual(
