@@ -251,7 +251,8 @@ MORE = [
     more("marked-assumed", {"a.c": HEAD + TABLE + "unsigned g(unsigned x) { unsigned y = BLADE_SECRET(x); "
                             "if (y != x) __builtin_unreachable(); return table[y & 255]; }\n"}),
     more("marked-beside-stripped", {
-        "a.c": HEAD + TABLE + "unsigned g(unsigned x) { return table[BLADE_SECRET(x) & 255]; }\nunsigned h(unsigned k) { return k * 3; }\n"},
+        "a.c": HEAD + TABLE + "unsigned g(unsigned x) { return table[BLADE_SECRET(x) & 255]; }\n"
+               "unsigned h(unsigned k) { return k * 3; }\n"},
          "blade-cc -Wl,--strip-all --label 'secret-param h 0' a.c -o out/"),
     more("marked-plain-stripped",
          {"a.c": HEAD + TABLE + "unsigned g(unsigned x) { return table[BLADE_SECRET(x) & 255]; }\n",
@@ -403,7 +404,8 @@ MORE = [
                                  "{ return table[p[0] & 255]; }\n"},
          "blade-cc a.c b.c -o out/", starts=IN_MEMORY, right=(*REFUSED, *BUILD)),
     more("marked-lto-exported", {
-        "a.c": HEAD + TABLE + "unsigned g(unsigned x) { return table[BLADE_SECRET(x) & 255]; }\n"}, "blade-cc -flto --export g a.c -o out/", right=(*REFUSED, *BUILD)),
+        "a.c": HEAD + TABLE + "unsigned g(unsigned x) { return table[BLADE_SECRET(x) & 255]; }\n"},
+        "blade-cc -flto --export g a.c -o out/", right=(*REFUSED, *BUILD)),
     more("marked-divisor", {"a.c": HEAD + "unsigned g(unsigned x) { unsigned short y = x; return 70000 "
                             "/ (BLADE_SECRET(y) | 1); }\n"}, "blade-cc -O3 a.c -o out/", right=NO),
     more("marked-reference", {"a.cc": HEAD + TABLE + "static unsigned look(const unsigned &x) "
