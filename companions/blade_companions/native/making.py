@@ -78,14 +78,17 @@ def is_ours(path: str) -> bool:
 
 def write(given: Given, output: str, verdict: str) -> None:
     """Writes NAME.c and NAME.h, but not over files that somebody else wrote. What was compiled from an
-    earlier NAME.c is removed."""
-    for path in (output, f"{output[:-2]}.h"):
-        if os.path.lexists(path) and not is_ours(path):
-            raise Bad(f"{path} wasn't made by blade-native, and isn't overwritten")
+    earlier NAME.c is removed; without an earlier NAME.c such files are somebody else's, too."""
+    header = f"{output[:-2]}.h"
+    others = [path for path in (output, header) if os.path.lexists(path) and not is_ours(path)]
+    if not is_ours(output):
+        others += filter(os.path.lexists, made_of(output))
+    if others:
+        raise Bad(f"{others[0]} wasn't made by blade-native, and isn't overwritten")
     translation = translate(given.image, prefix_of(output), verdict, given.origin)
     for path in filter(os.path.lexists, made_of(output)):
         os.unlink(path)
-    write_file(f"{output[:-2]}.h", translation.header.encode("ascii"))
+    write_file(header, translation.header.encode("ascii"))
     write_file(output, translation.source.encode("ascii"))
 
 

@@ -123,11 +123,13 @@ class Command(unittest.TestCase):
 
     def test_files_of_others_stay(self) -> None:
         found = self.hardened("masked_ssa")
-        for ending in ("c", "h"):
-            self.path(f"a.{ending}", b"int mine;\n")
-            status, printed = self.call(found, "-o", self.path("a.c"))
-            self.assertEqual((status, self.made()), (3, [f"a.{ending}"]), printed)
-            os.unlink(self.path(f"a.{ending}"))
+        for mine in ("a.c", "a.h", "a.o", "liba.a", "liba.so"):
+            for more in ([], ["--library"]):
+                self.path(mine, b"int mine;\n")
+                status, printed = self.call(found, "-o", self.path("a.c"), *more)
+                self.assertEqual((status, self.made()), (3, [mine]), printed)
+                self.assertIn(f"{mine} wasn't made by blade-native", printed)
+                os.unlink(self.path(mine))
 
     def test_usage(self) -> None:
         for words in ([], ["-o", "a-b.c"], ["-o", "int.c"], ["-o", "a.o"], ["--object"], ["--level", "-O9"]):
