@@ -186,7 +186,7 @@ def of_routine(splits: Splits, name: str) -> None:
 
 def routines(check: Check) -> None:
     splits = Splits(check)
-    for name in ("sha256", "hmac", "poly1305"):
+    for name in worked.CASES:
         of_routine(splits, name)
 
 
