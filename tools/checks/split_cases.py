@@ -11,6 +11,7 @@ from unittest import mock
 from typing import Dict, NamedTuple, Sequence, Tuple
 
 import known_bits
+import random_splits
 import routines as worked
 from harness import COMPANIONS, TOP, Check, lanes
 from blade_companions.formats.labels import entries_of
@@ -388,5 +389,5 @@ def algebra(check: Check) -> None:
 
 
 def splits(check: Check) -> None:
-    for one in (algebra, routines, controls, made, stops, words):
+    for one in (algebra, routines, controls, made, stops, words, random_splits.random_splits):
         one(check)
