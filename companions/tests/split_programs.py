@@ -185,7 +185,24 @@ CHAIN = module(
         ]
     ]
 )
+# A tee is the last step before a store, of its value and of its address: the shadow has to learn of both. The
+# address is no sum of locals.
+TEED = module(
+    [
+        [
+            *store(ROOM + 16, [i("get", 0), i("const", 4), i("add"), i("tee", 1)]),
+            *store(ROOM + 12, [i("const", 3)]),
+            *[i("get", 0), i("const", 2), i("shl"), i("const", ROOM + 8), i("xor"), i("tee", 2)],
+            *load(SECRET),
+            i("i32.store"),
+            *looked_up(load(ROOM + 12)),
+            *looked_up(load(ROOM + 16)),
+            i("add"),
+        ]
+    ]
+)
 BY_HAND = {
+    "teed": TEED,
     "stale": STALE,
     "looped": LOOPED,
     "neighbours": NEIGHBOURS,
@@ -219,7 +236,9 @@ class Maker:
         base = self.random.choice([SECRET, PUBLIC, ROOM, ROOM])
         if self.random.random() < 0.6:
             return [i("const", base + self.random.randrange(0, 60))]
-        return [i("get", self.random.randrange(6)), i("const", 31), i("and"), i("const", base), i("add")]
+        tee = [i("tee", self.random.randrange(6))] if self.random.random() < 0.3 else []
+        near = [i("const", 31), i("and"), i("const", base), i("add")]
+        return [i("get", self.random.randrange(6)), *near, *tee]
 
     def value(self, depth: int) -> List[Instruction]:
         choice = self.random.random()
@@ -250,7 +269,9 @@ class Maker:
                 ]
             )
             return [*self.value(depth - 1), i("const", number), i(name)]
-        if choice < 0.66 and self.calls:
+        if choice < 0.65:
+            return [*self.value(depth - 1), i("tee", self.random.randrange(6))]
+        if choice < 0.68 and self.calls:
             return [*self.value(depth - 1), i("call", 1)]
         if choice < 0.72:
             return [*self.value(depth - 1), *self.value(depth - 1), *self.value(0), i("select")]

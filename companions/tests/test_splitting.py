@@ -28,10 +28,11 @@ from blade_companions.splitting.parts import Data, Parts, parts_of
 from blade_companions.splitting.profile import Call
 from blade_companions.splitting.running import Instance
 from blade_companions.splitting.starts import split_start
+from blade_companions.splitting.terms import zero
 from .split_programs import BY_HAND, PUBLIC, ROOM, SECRET, Maker, i, load, looked_up, module, store
 
 # The other way a secret comes to a sink, so each of these traps; a leak that a run met is left as it is.
-TRAPPED = ["half 1", "looped 1", "neighbours 1", "stale 1", "unseen 1"]
+TRAPPED = ["half 1", "looped 1", "neighbours 1", "stale 1", "teed 1", "unseen 1"]
 SECRETS = [bytes(at * 11 + 3 & 0xFF for at in range(64)), bytes(64), b"\xff" * 64]
 OPEN = bytes(at * 3 & 0xFF for at in range(64))
 
@@ -201,6 +202,10 @@ class Mutants(unittest.TestCase):
         self.caught(
             shadow.Shadow, "public", lambda self, one: public(self, one).replace("unreachable", "nop")
         )
+
+    def test_a_tee_whose_value_is_not_what_is_known(self) -> None:
+        nothing = lambda self, place, step, known: knowledge.wholly(zero(known.bits))  # noqa: E731
+        self.caught(functions.FunctionWriter, "teed", nothing)
 
     def test_a_sink_that_is_not_checked(self) -> None:
         with all_d():

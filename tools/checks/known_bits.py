@@ -1,13 +1,14 @@
 #!/usr/bin/env python3
 """Tries the algebra of known bits exhaustively: for each operator, for each value and each mask of its
 operands, what is said to be known has to be so. The rules are those of splitting/knowledge.py, as C; what
-operators mean is written here once more. tools/checks/cc does this for numbers of 4 bits.
-Licence: public domain (CC0).
+operators mean is written here once more. tools/checks/cc does this for numbers of 8 bits, and for `select`,
+which has three operands, for numbers of 4 bits. Licence: public domain (CC0).
 
 usage: known_bits.py BITS [NAME..]
 
-BITS is the width: 1, 2, 4 or 8. For 8 bits it takes about a minute for each operator of two operands. NAME is
-one of the operators."""
+BITS is the width: 1, 2, 4 or 8. An operator of two operands has 4,294,967,296 cases of 8 bits, which take
+about half a second with AVX-512. NAME is one of the operators; without names all are tried. `select` is tried
+up to 4 bits: of 8 bits it has 65,536 times as many cases."""
 from __future__ import annotations
 
 import os
@@ -48,27 +49,39 @@ MEANING: Dict[str, str] = {
     "clz": "a ? __builtin_clz(a) - (32 - {n}) : {n}",
     "ctz": "a ? __builtin_ctz(a) : {n}",
     "popcnt": "__builtin_popcount(a)",
+    "select": "c ? a : b",
 }
+WIDEST = {"select": 4}  # the most bits of which all cases are tried
 PROGRAM = """typedef unsigned u32;
 typedef int i32;
-#define TURNS %(turns)d
-static inline u32 meant(u32 a, u32 b) { return %(meant)s; }
+#define SIZE %(size)d
+#define SECOND %(second)d
+#define THIRD %(third)d
+static inline u32 meant(u32 a, u32 b, u32 c) { (void)b; (void)c; return %(meant)s; }
 %(helpers)s
+static u32 is_wrong(u32 x, u32 v, u32 w, u32 z, u32 u) {
+    u32 wrong = 0;
+    for (u32 y = 0; y < SECOND; y++) {
+        u32 p0 = x & v, v0 = v, p1 = y & w, v1 = w, p2 = z & u, v2 = u;
+        u32 value = %(value)s, mask = %(mask)s, r = meant(x, y, z);
+        wrong |= (value & ~mask) | ((r ^ value) & mask);
+    }
+    return wrong;
+}
 int main(void) {
-    for (u32 v = 0; v < %(size)d; v++)
-        for (u32 x = 0; x < %(size)d; x++)
-            for (u32 w = 0; w < TURNS; w++) {
-                u32 wrong = 0;
-                for (u32 y = 0; y < TURNS; y++) {
-                    u32 p0 = x & v, v0 = v, p1 = y & w, v1 = w;
-                    u32 value = %(value)s, mask = %(mask)s, r = meant(x, y);
-                    wrong |= (value & ~mask) | ((r ^ value) & mask);
-                }
-                if (wrong) return 1;
-            }
+    for (u32 u = 0; u < THIRD; u++)
+        for (u32 z = 0; z < THIRD; z++)
+            for (u32 v = 0; v < SIZE; v++)
+                for (u32 x = 0; x < SIZE; x++)
+                    for (u32 w = 0; w < SECOND; w++)
+                        if (is_wrong(x, v, w, z, u)) return 1;
     return 0;
 }
 """
+
+
+def meaning(name: str, bits: int) -> str:
+    return MEANING[name].format(n=bits, m=(1 << bits) - 1, h=1 << (bits - 1))
 
 
 def text(term: Term, bits: int, helpers: List[str]) -> str:
@@ -81,28 +94,33 @@ def text(term: Term, bits: int, helpers: List[str]) -> str:
     if term.code == op.SELECT:
         return f"({found[2]} ? {found[0]} : {found[1]})"
     name = op.OPERATORS[term.code].word
-    meant = MEANING[name].format(n=bits, m=(1 << bits) - 1, h=1 << (bits - 1))
-    helper = f"static inline u32 of_{name}(u32 a, u32 b) {{ (void)b; return {meant}; }}"
+    helper = f"static inline u32 of_{name}(u32 a, u32 b) {{ (void)b; return {meaning(name, bits)}; }}"
     if helper not in helpers:
         helpers.append(helper)
     return f"of_{name}({', '.join(found if len(found) == 2 else [*found, '0'])})"
 
 
 def program(name: str, bits: int) -> str:
-    code = op.CODE_OF[f"i32.{name}"]
-    count = len(op.OPERATORS[code].operands)
+    code = op.SELECT if name == "select" else op.CODE_OF[f"i32.{name}"]
+    count = 3 if code == op.SELECT else len(op.OPERATORS[code].operands)
     known = result_of(code, [Known(Var(f"p{at}", bits), Var(f"v{at}", bits)) for at in range(count)])
     helpers: List[str] = []
     value, mask = (text(one, bits, helpers) for one in known)
-    meant = MEANING[name].format(n=bits, m=(1 << bits) - 1, h=1 << (bits - 1))
+    size = 1 << bits
     return PROGRAM % {
-        "size": 1 << bits,
-        "turns": 1 << bits if count == 2 else 1,
-        "meant": meant,
+        "size": size,
+        "second": size if count > 1 else 1,
+        "third": size if count > 2 else 1,
+        "meant": meaning(name, bits),
         "helpers": "\n".join(helpers),
         "value": value,
         "mask": mask,
     }
+
+
+def width(name: str, bits: int) -> int:
+    """The width, or the widest of the operator."""
+    return min(bits, WIDEST.get(name, bits))
 
 
 def is_right(name: str, bits: int, folder: str) -> bool:
@@ -121,9 +139,10 @@ def main(words: Sequence[str]) -> int:
     wrong = 0
     with tempfile.TemporaryDirectory() as folder:
         for name in words[1:] or MEANING:
-            holds = is_right(name, int(words[0]), folder)
+            bits = width(name, int(words[0]))
+            holds = is_right(name, bits, folder)
             wrong += not holds
-            print(f"{'right' if holds else 'WRONG'}  {name}, all cases of {words[0]} bits", flush=True)
+            print(f"{'right' if holds else 'WRONG'}  {name}, all cases of {bits} bits", flush=True)
     return 1 if wrong else 0
 
 

@@ -65,8 +65,11 @@ class Body:
     def load(self, kind: int, depth: int) -> bytes:
         if not self.maker.has_memory:
             return self.leaf(kind)
-        return self.value(I32, depth) + bytes([self.chance.choice(LOADS[kind]),
-                                               0]) + leb(self.chance.choice((0, 4, 300)))
+        return self.address(depth) + bytes([self.chance.choice(LOADS[kind]),
+                                            0]) + leb(self.chance.choice((0, 4, 300)))
+
+    def address(self, depth: int) -> bytes:
+        return self.value(I32, depth)
 
     def select(self, kind: int, depth: int) -> bytes:
         return self.value(kind, depth) + self.value(kind, depth) + self.value(I32, depth) + b"\x1B"
@@ -149,7 +152,7 @@ class Body:
         if there:
             ways.append(self.value(kind, depth) + b"\x24" + leb(self.chance.choice(there)))
         if self.maker.has_memory:
-            ways.append(self.value(I32, depth) + self.value(kind, depth)
+            ways.append(self.address(depth) + self.value(kind, depth)
                         + bytes([self.chance.choice(STORES[kind]), 0]) + leb(8))
         at = self.chance.randrange(len(self.labels))
         values = self.labels[-1 - at]
@@ -169,6 +172,8 @@ class Maker:
     """One module; with the first one's exports, it imports some of them."""
 
     body = Body
+    results = (0, 1, 1, 1, 2)  # how many a function has
+    chance_of_memory = 0.8
 
     def __init__(self, chance: random.Random, other: Any = None) -> None:
         self.chance, self.other = chance, other
@@ -183,9 +188,9 @@ class Maker:
         self.globals += [(chance.choice((I32, I64)), chance.random() < 0.7)
                          for _ in range(chance.randrange(3))]
         for _ in range(chance.randrange(1, 5)):
-            results = tuple(chance.choice((I32, I64)) for _ in range(chance.choice((0, 1, 1, 1, 2))))
+            results = tuple(chance.choice((I32, I64)) for _ in range(chance.choice(self.results)))
             self.kinds.append((tuple(chance.choice((I32, I64)) for _ in range(chance.randrange(4))), results))
-        self.own_memory = not self.has_memory and chance.random() < 0.8
+        self.own_memory = not self.has_memory and chance.random() < self.chance_of_memory
         self.has_memory |= self.own_memory
         self.own_table = not self.has_table and chance.random() < 0.5
         if self.own_table:

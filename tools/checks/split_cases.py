@@ -11,8 +11,9 @@ from unittest import mock
 from typing import Dict, NamedTuple, Sequence, Tuple
 
 import known_bits
+import random_splits
 import routines as worked
-from harness import COMPANIONS, TOP, Check
+from harness import COMPANIONS, TOP, Check, lanes
 from blade_companions.formats.labels import entries_of
 from blade_companions.formats.module import FUNCTION, read_module
 from blade_companions.splitting import knowledge
@@ -21,6 +22,7 @@ CC, SPLIT, EXPLAIN = (f"{COMPANIONS}/blade-{name}" for name in ("cc", "split", "
 AT = worked.AT
 PIECES = ["piece/shadow.wasm", "piece/piece.wasm"]
 SECRET = ["--label", "secret-memory 0"]
+BITS = 8  # the width at which the algebra of known bits is tried
 HEAD = "typedef unsigned char u8;\ntypedef unsigned u32;\n"
 
 
@@ -185,7 +187,7 @@ def of_routine(splits: Splits, name: str) -> None:
 
 def routines(check: Check) -> None:
     splits = Splits(check)
-    for name in ("sha256", "hmac", "poly1305"):
+    for name in worked.CASES:
         of_routine(splits, name)
 
 
@@ -377,13 +379,15 @@ def alone(splits: Splits, start: str) -> None:
 
 
 def algebra(check: Check) -> None:
-    """The known bits of each operator, in all cases of 4 bits; a mask that is too wide is found."""
-    for name in known_bits.MEANING:
-        check.say(f"known bits of {name}, all cases of 4 bits", known_bits.is_right(name, 4, check.folder))
+    """The known bits of each operator, in all cases of 8 bits, or of 4; a mask that is too wide is found."""
+    names = list(known_bits.MEANING)
+    found = lanes(lambda name: known_bits.is_right(name, known_bits.width(name, BITS), check.folder), names)
+    for name, holds in zip(names, found):
+        check.say(f"known bits of {name}, all cases of {known_bits.width(name, BITS)} bits", holds)
     with mock.patch.object(knowledge, "low_run", lambda mask: knowledge.ones(mask.bits)):
-        check.say("a mask that is too wide", not known_bits.is_right("add", 4, check.folder))
+        check.say("a mask that is too wide", not known_bits.is_right("add", BITS, check.folder))
 
 
 def splits(check: Check) -> None:
-    for one in (algebra, routines, controls, made, stops, words):
+    for one in (algebra, routines, controls, made, stops, words, random_splits.random_splits):
         one(check)

@@ -158,8 +158,8 @@ class FunctionWriter:
         return next(iter(self.flow.callees(self.flow.module.types[step.ins.numbers[0]])), None)
 
     def is_steady(self, place: Place, step: Step) -> bool:
-        """Whether the local that is read stays as it is until what it gave is popped."""
-        between = self.function.steps[place.step : self.flow.consumer[step.result].step]
+        """Whether a local stays as it is until what was read from it, or left by a tee, is popped."""
+        between = self.function.steps[place.step + 1 : self.flow.consumer[step.result].step]
         return not any(
             one.ins.code in (op.LOCAL_SET, op.LOCAL_TEE) and one.ins.numbers == step.ins.numbers
             for one in between
@@ -274,8 +274,8 @@ class FunctionWriter:
         bits = op.BITS[self.flow.kind[node]]
         if kind == "S" and not self.is_leak(node):
             return nothing(bits)
-        if known and isinstance(known.value, (Const, Var)):
-            return wholly(known.value)
+        if known and is_ones(known.mask) and isinstance(known.value, (Const, Var)):
+            return known
         local = self.borrow(node, self.flow.kind[node])
         self.emit(op.LOCAL_TEE, local)
         return wholly(Var(local, bits))
@@ -393,12 +393,18 @@ class FunctionWriter:
             if self.kinds.of(node) == "D":
                 self.assign(self.pair(node), known)
             if code == op.LOCAL_TEE:
-                self.pushed(
-                    step.result,
-                    Known(self.held(step.result, known.value), self.held(step.result, known.mask))
-                    if self.is_kept(step.result) or self.kinds.of(step.result) == "D"
-                    else None,
-                )
+                self.pushed(step.result, self.teed(place, step, known))
+
+    def teed(self, place: Place, step: Step, known: Known) -> Optional[Known]:
+        """What is known of what a tee leaves on the stack: if it is public, the local has all of it, unless
+        the local is set before the step that pops it."""
+        result, index = step.result, step.ins.numbers[0]
+        kind = self.kinds.of(result)
+        if kind == "D":
+            return Known(self.held(result, known.value), self.held(result, known.mask))
+        if kind == "U" and self.is_steady(place, step):
+            return wholly(Var(self.local(index), op.BITS[self.flow.kind[result]]))
+        return None
 
     def get(self, place: Place, step: Step, index: int) -> None:
         node, result = self.function.locals[index], step.result
