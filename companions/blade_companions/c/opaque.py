@@ -75,6 +75,7 @@ class Unit:
 
     def __init__(self, text: str, path: str, words: Sequence[str]) -> None:
         self.text, self.path, self.others = Text(text), path, beside(words)
+        self.folder = os.getcwd()  # from which files are named
         told = list(dict.fromkeys(self.text.secrets()))
         lines = [named for named in map(of_line, told) if named]
         self.others += [word for line in told if of_line(line) is None for word in line.split("\t")[:2]]
@@ -309,7 +310,7 @@ def place_in_code(symbol: str) -> str:
 
 def record(unit: Unit, is_strict: bool) -> List[str]:
     """The unit's part of the section."""
-    lines = [f'module asm ".section .custom_section.{NAME},\\22\\22,@"', row("unit", unit.path, os.getcwd())]
+    lines = [f'module asm ".section .custom_section.{NAME},\\22\\22,@"', row("unit", unit.path, unit.folder)]
     lines += [row("sees", *named) for named in unit.known] + [row("words", *unit.others)] * bool(unit.others)
     lines += [row("marks")] * unit.has_marks
     lines += [row("strict")] * is_strict
