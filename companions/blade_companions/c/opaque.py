@@ -10,7 +10,7 @@ from typing import Dict, Iterable, List, NamedTuple, Optional, Sequence, Set, Tu
 from ..formats.labels import KINDS, count_text
 from ..formats.reading import Bad
 from .assumptions import without_assumptions
-from .ir import INLINE_LINKAGE, Defined, Param, Text, is_symbol_of, mentions, size_of
+from .ir import INLINE_LINKAGE, Defined, Param, Text, is_symbol_of, mentions, size_inside, size_of
 
 NAME = "blade.units"
 MARK = "@blade_secret_mask_"  # what BLADE_SECRET reads
@@ -164,8 +164,8 @@ def why_none(one: Defined, name: str) -> str:
 
 def hidden_result(one: Defined) -> Optional[int]:
     """How many parameters stand in front for a result that doesn't fit; None where that isn't known."""
-    size = 0 if one.result == "void" else size_of(one.result)
-    return size if not size else size - 1
+    size = 0 if one.result == "void" else size_inside(one.result)
+    return size and min(size, 2) - 1
 
 
 def count_of(one: Defined) -> str:
@@ -293,7 +293,7 @@ def hidden_return(line: str, at: int) -> str:
 
 def spelled(data: bytes) -> str:
     """Bytes in an assembler's text, and that in LLVM's."""
-    return "".join(chr(byte) if chr(byte).isalnum() and byte < 128 or chr(byte) in " ._-+:/()!,<>[]{}*&=;#@~"
+    return "".join(chr(byte) if chr(byte).isalnum() and byte < 128 or chr(byte) in " ._-+:/()!,<>[]{}*&=;#@~$"
                    else f"\\5C{byte:03o}" for byte in data)
 
 

@@ -65,7 +65,7 @@ def record_of(line: str, text: str) -> Record:
         raise Bad(f"a label of another version of blade-labels: {parts[0]}")
     if len(parts) != 5 or parts[1] not in KINDS or len(functions) != (parts[1] != "secret-memory"):
         raise Bad(f"a label that the macros of blade-labels don't write: {' '.join(parts)}")
-    return Record(parts[1], functions[0] if functions else "", *parts[2:])
+    return Record(parts[1], functions[0] if functions else "", parts[2], parts[3].replace("r#", ""), parts[4])
 
 
 def taken_out(lines: Sequence[str]) -> Tuple[List[str], List[Record]]:

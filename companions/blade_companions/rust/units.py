@@ -6,11 +6,12 @@ import os
 import re
 from typing import Dict, List, NamedTuple, Optional, Sequence
 
-from ..c.ir import Defined, Text
+from ..c.ir import Defined, Param, Text
 from ..c.opaque import Label, Opaque, Unit, number_of, spelled
 from .demangling import told
 from .records import Record, taken_out, with_plain_types, with_traps
 
+STORE = re.compile(r"  store .* %(\d+), .* %([\w.]+)(?:,|$)")
 ODD = re.compile(r"\{\{|\{closure|\{shim|call_once|reify")  # in names of functions that rustc makes by itself
 
 
@@ -61,6 +62,7 @@ class RustUnit(Unit):
         why = why_none(function, record)
         if why:
             return Label(record.named, function, f"!{why}", "")
+        function.params = named_by_stores(function, self.text.lines[function.start : function.end])
         number, name = number_of(function, record.named)
         if number.isdigit() and record.kind == "secret-param":
             number = checked(function, number, name)
@@ -78,6 +80,16 @@ def why_none(function: Defined, record: Record) -> str:
     if function.params and not function.numbered and record.kind == "secret-param":
         return f"{record.path} has no parameters with names: it is no function that the source defines"
     return ""
+
+
+def named_by_stores(function: Defined, lines: Sequence[str]) -> List[Param]:
+    """The parameters with their names: one that stands in the frame from the first is named by its place
+    there."""
+    names = set(function.numbered.values())
+    stores = [found.groups() for found in map(STORE.match, lines) if found]
+    told = {given: place for given, place in stores if place in names}
+    return [one._replace(name=told.get(one.name, one.name)) if one.name.isdigit() else one
+            for one in function.params]
 
 
 def checked(function: Defined, number: str, name: str) -> str:
