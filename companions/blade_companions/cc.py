@@ -379,11 +379,14 @@ class Driver:
         image = read_image(read_file(f"{made}.{self.image_end}", "image"))
         functions = lower([read_module(path) for path in modules])
         differ = compare.positions_differ(image, functions)
-        lines = Lines([] if differ else functions,
-                      Sources([".", *{os.path.dirname(os.path.abspath(one)) for one in self.asked.sources}]))
+        lines = Lines([] if differ else functions, self.sources())
         seen, protects = find(image), self.protects(image, made)
         differ += compare.report_differs(seen, protects, report)
         return diagnostics.told_of(seen, lines, causes_of(seen, lines), protects), lines, differ
+
+    def sources(self) -> Sources:
+        """The user's sources, of which lines are shown."""
+        return Sources([".", *{os.path.dirname(os.path.abspath(one)) for one in self.asked.sources}])
 
     def protects(self, image: Image, made: str) -> List[Protect]:
         return protects_of(image, read_certificate(read_file(f"{made}.json")))

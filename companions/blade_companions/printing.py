@@ -3,9 +3,13 @@ line, moves the cursor or turns the text round. Licence: public domain (CC0)."""
 from __future__ import annotations
 
 import sys
-from typing import Any, Optional, TextIO
+from typing import Any, Callable, Optional, TextIO
+
+from .nesting import shortened
 
 LONG = 200  # so many letters of a name are told
+# What becomes of each line that is said: cargo-blade has its own words for what the tools say of C.
+TELLING: Callable[[str], str] = str
 
 
 def printable(text: str) -> str:
@@ -19,7 +23,9 @@ def spelled(letter: str) -> str:
 
 
 def called(name: str) -> str:
-    """A name as it is told: of a very long one the beginning."""
+    """A name as it is told: of a very long one without what is nested deepest in its types, or else the
+    beginning."""
+    name = shortened(name, LONG) if len(name) > LONG else name
     return printable(name if len(name) <= LONG else name[:LONG] + "..")
 
 
@@ -36,4 +42,4 @@ def all_printable(value: Any) -> Any:
 
 def say(line: str, file: Optional[TextIO] = None) -> None:
     """Prints one line, whatever the words in it."""
-    print(printable(line), file=file or sys.stdout)
+    print(printable(TELLING(line)), file=file or sys.stdout)

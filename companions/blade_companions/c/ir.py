@@ -103,6 +103,19 @@ def size_of(kind: str) -> Optional[int]:
     return 1 if is_pointer(kind) or kind in ONE_NUMBER or kind == "..." else None
 
 
+def size_inside(kind: str) -> Optional[int]:
+    """The same for the values in a struct or an array, which a result may be."""
+    array = re.fullmatch(r"\[(\d+) x (.*)\]", kind)
+    if array:
+        size = size_inside(array[2])
+        return None if size is None else int(array[1]) * size
+    struct = re.fullmatch(r"<?\{(.*)\}>?", kind)
+    if not struct:
+        return size_of(kind)
+    sizes = [size_inside(one) for one in split_at_commas(struct[1])]
+    return None if None in sizes else sum(size or 0 for size in sizes)
+
+
 def split_at_commas(text: str) -> List[str]:
     """The parts between the commas that stand in no bracket."""
     parts, depth, start = [], 0, 0

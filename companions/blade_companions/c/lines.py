@@ -2,6 +2,7 @@
 from __future__ import annotations
 
 import bisect
+import re
 from collections import defaultdict
 from dataclasses import dataclass
 from typing import Dict, Iterable, List, NamedTuple, Optional, Sequence, Tuple
@@ -14,6 +15,7 @@ from ..formats.places import NOWHERE as NO_PLACE, Origins
 from ..printing import printable
 
 HEADERS = (".h", ".inc", ".hpp")
+OF_RUST = re.compile(r"(?:.*/)?library/(?:alloc|core|std)/src/.*\.rs$")  # rustc's own library
 
 
 class Line(NamedTuple):
@@ -126,6 +128,8 @@ class Lines:
 
 
 def chosen(frames: Sequence[Frame]) -> Line:
-    """The line of a place: of a helper that was inlined from a header, the line that uses it."""
+    """The line of a place: of a helper that was inlined from a header, or from rustc's library, the line that
+    uses it."""
     read = [Line(frame.path, frame.line, frame.function, frame.column) for frame in frames if frame.path]
-    return next((line for line in read if not line.path.endswith(HEADERS)), read[0] if read else NOWHERE)
+    return next((line for line in read if not line.path.endswith(HEADERS) and not OF_RUST.match(line.path)),
+                read[0] if read else NOWHERE)

@@ -10,7 +10,7 @@ from typing import Dict, Iterable, List, NamedTuple, Optional, Sequence, Set, Tu
 from ..formats.labels import KINDS, count_text
 from ..formats.reading import Bad
 from .assumptions import without_assumptions
-from .ir import INLINE_LINKAGE, Defined, Param, Text, is_symbol_of, mentions, size_of
+from .ir import INLINE_LINKAGE, Defined, Param, Text, is_symbol_of, mentions, size_inside, size_of
 
 NAME = "blade.units"
 MARK = "@blade_secret_mask_"  # what BLADE_SECRET reads
@@ -75,6 +75,7 @@ class Unit:
 
     def __init__(self, text: str, path: str, words: Sequence[str]) -> None:
         self.text, self.path, self.others = Text(text), path, beside(words)
+        self.folder = os.getcwd()  # from which files are named
         told = list(dict.fromkeys(self.text.secrets()))
         lines = [named for named in map(of_line, told) if named]
         self.others += [word for line in told if of_line(line) is None for word in line.split("\t")[:2]]
@@ -163,8 +164,8 @@ def why_none(one: Defined, name: str) -> str:
 
 def hidden_result(one: Defined) -> Optional[int]:
     """How many parameters stand in front for a result that doesn't fit; None where that isn't known."""
-    size = 0 if one.result == "void" else size_of(one.result)
-    return size if not size else size - 1
+    size = 0 if one.result == "void" else size_inside(one.result)
+    return size and min(size, 2) - 1
 
 
 def count_of(one: Defined) -> str:
@@ -292,7 +293,7 @@ def hidden_return(line: str, at: int) -> str:
 
 def spelled(data: bytes) -> str:
     """Bytes in an assembler's text, and that in LLVM's."""
-    return "".join(chr(byte) if chr(byte).isalnum() and byte < 128 or chr(byte) in " ._-+:/()!,<>[]{}*&=;#@~"
+    return "".join(chr(byte) if chr(byte).isalnum() and byte < 128 or chr(byte) in " ._-+:/()!,<>[]{}*&=;#@~$"
                    else f"\\5C{byte:03o}" for byte in data)
 
 
@@ -309,7 +310,7 @@ def place_in_code(symbol: str) -> str:
 
 def record(unit: Unit, is_strict: bool) -> List[str]:
     """The unit's part of the section."""
-    lines = [f'module asm ".section .custom_section.{NAME},\\22\\22,@"', row("unit", unit.path, os.getcwd())]
+    lines = [f'module asm ".section .custom_section.{NAME},\\22\\22,@"', row("unit", unit.path, unit.folder)]
     lines += [row("sees", *named) for named in unit.known] + [row("words", *unit.others)] * bool(unit.others)
     lines += [row("marks")] * unit.has_marks
     lines += [row("strict")] * is_strict

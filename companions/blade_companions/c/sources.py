@@ -4,7 +4,7 @@ from __future__ import annotations
 
 import os
 import stat
-from typing import Dict, List, Sequence, Set, Tuple
+from typing import Callable, Dict, List, Sequence, Set, Tuple
 
 MOST = 4_194_304  # bytes of a source
 # What sources are called; another file is read where the user names it.
@@ -20,6 +20,10 @@ class Sources:
         self.roots, self.pairs = list(roots), list(pairs)
         self.known: Dict[str, List[str]] = {}
         self.outside: Set[str] = set()  # paths that stand below none of the folders
+        # folders of libraries whose sources are shown, with the libraries' names; and how a path says by
+        # itself which library it belongs to
+        self.libraries: List[Tuple[str, str]] = []
+        self.library_of: Callable[[str], str] = lambda path: ""
 
     def lines(self, path: str) -> List[str]:
         """The lines of a file, where it may be read."""
@@ -35,7 +39,7 @@ class Sources:
 
     def may_be_read(self, real: str) -> bool:
         """Whether a path without links is a named file, or a source below a named folder."""
-        roots = [os.path.realpath(root) for root in self.roots]
+        roots = [os.path.realpath(root) for root in [*self.roots, *(folder for folder, _ in self.libraries)]]
         return real in roots or real.endswith(ENDINGS) and any(real.startswith(root.rstrip("/") + "/")
                                                                for root in roots)
 

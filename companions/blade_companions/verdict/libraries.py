@@ -9,6 +9,7 @@ from ..c.lines import Line
 from ..c.paths import shown
 from ..c.sources import Sources, is_plain
 from ..c.tools import INCLUDE
+from ..nesting import shortened
 
 if TYPE_CHECKING:
     from .diagnostics import Problem
@@ -36,7 +37,7 @@ class Library(NamedTuple):
         for one in self.problems:
             places.setdefault(one.function, []).append(one.position)
         functions = sorted(places)
-        names = (f": {'; '.join(name + called(places[name]) for name in functions)}"
+        names = (f": {'; '.join(shortened(name) + called(places[name]) for name in functions)}"
                  if len(functions) <= NAMED else "")
         told = (f"{self.name}: {number} violation{'s' * (number != 1)} in {len(functions)} "
                 f"function{'s' * (len(functions) != 1)}{names} "
@@ -64,6 +65,10 @@ class Owners:
         places = self.sources.places(path)
         if any(is_below(place, INCLUDE) for place in places):
             return FREESTANDING
+        named = [name for folder, name in self.sources.libraries
+                 if any(is_below(place, folder) for place in places)]
+        if named or self.sources.library_of(path):
+            return (named or [self.sources.library_of(path)])[0]
         below = [place for place in places if any(is_below(place, root) for root in self.roots)]
         if any(map(is_plain, below)):
             return OWN
