@@ -307,8 +307,8 @@ class Maker:
 
     def loop(self, depth: int) -> List[Instruction]:
         """A few turns: local 7 counts, and local 6 is an address that each turn stores at and moves on."""
-        step = self.random.choice([1, 1, 4, -1, 2])
-        name = {1: "i32.store8", -1: "i32.store8", 2: "i32.store16", 4: "i32.store"}[step]
+        step = self.random.choice([1, 1, 4, -1, 2, 8])
+        names = {1: "i32.store8", -1: "i32.store8", 2: "i32.store16", 4: "i32.store", 8: "i64.store"}
         more = self.statement(0) if self.random.random() < 0.4 else []
         turns = self.random.randrange(1, 6)
         return [
@@ -319,7 +319,8 @@ class Maker:
             i("loop"),
             i("get", 6),
             *self.value(1),
-            i(name),
+            *[i("i64.extend_i32_u")] * (step == 8),
+            i(names[step]),
             *more,
             i("get", 6),
             i("const", step & 0xFFFFFFFF),

@@ -169,26 +169,39 @@ warn_unlabelled() {
     case ${1-} in harden | lower | part) ;; *) return 0 ;; esac
     command -v grep > /dev/null || return 0
     for file in "${@:2}"; do
-        if [ -f "$file" ] && grep -qaF $'\rblade.secrets' "$file" &&
-            ! grep -qaF $'\fblade.labels' "$file"; then
+        if [ -f "$file" ] && grep -qaF -e $'\rblade.secrets' -- "$file" &&
+            ! grep -qaF -e $'\fblade.labels' -- "$file"; then
             echo "blade: warning: $file: what its source declares secret isn't in its labels," \
                 "and counts as public: blade-label puts it there" >&2
         fi
-        warn_changed "$file"
     done
 }
 
-# Warns of a module whose code isn't what its labels were made for: they would speak of other functions and
-# parameters.
-warn_changed() {
-    local label=$here/companions/blade-label
-    if [ ! -f "$1" ] || [ ! -x "$label" ] || ! grep -qaF $'\tblade.sum' "$1" ||
-        ! command -v python3 > /dev/null; then
-        return 0
-    fi
-    "$label" "$1" --check 2> /dev/null ||
-        echo "blade: warning: $1: its code was changed after it was labelled, so its labels may speak of" \
-            "other functions: blade-label it again" >&2
+# Fails if the code of a module isn't what its labels were made for: they could name other functions, and the
+# verdict would be about them. Warns if this can't be told.
+refuse_changed() {
+    local label=$here/companions/blade-label file status refused=0
+    case ${1-} in harden | lower | part) ;; *) return 0 ;; esac
+    command -v grep > /dev/null || return 0
+    for file in "${@:2}"; do
+        if [ ! -f "$file" ] || ! grep -qaF -e $'\tblade.sum' -- "$file"; then continue; fi
+        case $file in -*) file=./$file ;; esac
+        status=0
+        "$label" "$file" --check > /dev/null 2>&1 || status=$?
+        case $status in
+            0) ;;
+            5)
+                refused=1
+                echo "blade: $file: its code was changed after it was labelled, so its labels may name other" \
+                    "functions; nothing is done: blade-label --replace labels it again" >&2
+                ;;
+            *)
+                echo "blade: warning: $file: nothing says whether its labels still fit its code, since" \
+                    "blade-label --check ends with $status (it needs python3)" >&2
+                ;;
+        esac
+    done
+    return "$refused"
 }
 
 # Whether a program isn't there, or is older than a file or folder that it may be made from, or this can't be

@@ -12,9 +12,9 @@ from .terms import ranges
 if TYPE_CHECKING:
     from .functions import FunctionWriter
 
-# A range costs some 16 commands for eight bytes that it clears, and 30 for eight that it fills. A call for
-# one store costs 10, and 16.
-CLEARED_IN_LOOP, FILLED_IN_LOOP = 4, 4
+# A range costs some nine commands for eight bytes that it clears, and 15 for eight that it fills. A call for
+# one store costs 10, and 16. These are the most bytes of a turn, and of a store, for which a range is cheaper.
+CLEARED_IN_LOOP, FILLED_IN_LOOP = 8, 8
 SETTING = frozenset([op.LOCAL_SET, op.LOCAL_TEE])
 # Steps that go another way, or to other code: masks are cleared before.
 LEAVING = frozenset(

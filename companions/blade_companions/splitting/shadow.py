@@ -125,7 +125,8 @@ class Shadow:
         return FuncType(bytes((op.I32, *more)), bytes([kind] if what in ("public", "bits", "mask") else []))
 
     def body_of(self, accessor: Accessor) -> Body:
-        own = [op.I64] if accessor.what == "public" and op.ACCESSES[accessor.code].width < 8 else []
+        is_narrow = accessor.what == "public" and op.ACCESSES[accessor.code].width < 8
+        own = [op.I64] if is_narrow or accessor.what == "fill_range" else []
         return Body(own, op.assembled(getattr(self, accessor.what)(accessor) + "end"))
 
     def public(self, one: Accessor) -> str:
@@ -177,37 +178,33 @@ class Shadow:
 
     def wipe_range(self, one: Accessor) -> str:
         """Clears the masks from one address to another."""
-        return self.ranged(
-            {store: f"local.get 0; {kind}.const 0; {store} {self.base};" for store, _, kind in WIPES}
-        )
+        return self.ranged(("i64.const 0;", self.base))
 
     def fill_range(self, one: Accessor) -> str:
         """The same known byte from one address to another."""
-        filled = {}
-        for store, width, kind in WIPES:
-            widen = "i64.extend_i32_u;" if kind == "i64" else ""
-            ones = int.from_bytes(b"\1" * width, "little")
-            filled[store] = (
-                f"local.get 0; local.get 2; i32.const 255; i32.and; {widen} {kind}.const {ones};"
-                f"{kind}.mul; {store}; local.get 0; {kind}.const -1; {store} {self.base};"
-            )
-        return self.ranged(filled)
+        filled = "local.get 2; i32.const 255; i32.and; i64.extend_i32_u; i64.const 0x101010101010101; i64.mul;"
+        return f"{filled} local.set 3;" + self.ranged(("local.get 3;", 0), ("i64.const -1;", self.base))
 
-    def ranged(self, stored: Dict[str, str]) -> str:
-        """A loop of eight bytes a turn, and then four, two and one if they are left. `stored` has what is
-        done at local 0, by the store."""
+    def ranged(self, *rows: Tuple[str, int]) -> str:
+        """A loop of 32 bytes a turn, and then what is left. Each row has a value, and where its bytes stand,
+        from local 0 on."""
 
-        def turn(store: str, width: int) -> str:
-            return f"{stored[store]} local.get 0; i32.const {width}; i32.add; local.set 0;"
+        def turn(width: int) -> str:
+            store = f"i64.store{8 * width}" if width < 8 else "i64.store"
+            stores = "".join(f"local.get 0; {value} {store} {at + more};"
+                             for more in range(0, width, 8) for value, at in rows)
+            return f"{stores} local.get 0; i32.const {width}; i32.add; local.set 0;"
 
         left = "local.get 1; local.get 0; i32.sub;"
-        code = (
-            f"block; {left} i32.const 8; i32.lt_u; br_if 0; loop; {turn('i64.store', 8)}"
-            f"{left} i32.const 8; i32.ge_u; br_if 0; end; end;"
+
+        def rest(widths: Sequence[int]) -> str:
+            each = "".join(f"{left} i32.const {one}; i32.and; if; {turn(one)} end;" for one in widths)
+            return f"{left} i32.const {sum(widths)}; i32.and; if; {each} end;"
+
+        return (
+            f"block; {left} i32.const 32; i32.lt_u; br_if 0; loop; {turn(32)}"
+            f"{left} i32.const 32; i32.ge_u; br_if 0; end; end; {rest((16, 8))} {rest((4, 2, 1))}"
         )
-        for store, width, _ in WIPES[1:]:
-            code += f"{left} i32.const {width}; i32.and; if; {turn(store, width)} end;"
-        return code
 
     def mirror(self, one: Accessor) -> str:
         kind = f"i{op.BITS[op.ACCESSES[one.code].type]}"
