@@ -19,7 +19,7 @@ TOP = os.path.dirname(COMPANIONS)
 
 
 def tools() -> List[str]:
-    return sorted(name for name in os.listdir(COMPANIONS) if name.startswith("blade-"))
+    return sorted(name for name in os.listdir(COMPANIONS) if name.startswith(("blade-", "cargo-")))
 
 
 def asked(name: str, words: Sequence[str]) -> Tuple[int, str, str]:

@@ -321,3 +321,44 @@ fn choose(a: u32, b: u32, bit: u32) -> u32 { b ^ (a ^ b) & bit.wrapping_neg() }
 #[no_mangle] pub extern "C" fn chosen(a: u32, b: u32, bit: u32) -> u32 { choose(a, b, bit & 1) }
 """, words=("--public-callers=way::choose",)),
 ]
+
+
+class Routine(NamedTuple):
+    """An example of examples/rust: its verdict's status, what is said, whether it is split, and a published
+    vector: the exported function, and where the result is (-1: it is returned)."""
+
+    name: str
+    status: int
+    told: Tuple[str, ...]
+    export: str = ""
+    offset: int = -1
+    vector: str = ""
+    split: bool = False
+
+
+PLAIN, SPLIT = ("constant-time yes: none of ",), ("constant-time yes: none of ", "after splitting")
+ROUTINES: List[Routine] = [
+    Routine("lookup", LEAK, ("examples/lookup.rs:12:15: error: a secret is part of the address of a load",)),
+    Routine("early_exit", LEAK, ("examples/early_exit.rs:11:12: error: a branch depends on a secret",)),
+    Routine("select", YES, PLAIN),
+    Routine("equal", YES, PLAIN, "same", -1, "i32 1"),
+    # RFC 7748, 5.2
+    Routine("x25519", YES, PLAIN, "x25519", 196512,
+            "c3da55379de9c6908e94ea4df28d084f32eccf03491c71f754b4075577a28552"),
+    # FIPS 197, appendix C.1
+    Routine("aes128", YES, PLAIN, "aes128", 196576, "69c4e0d86a7b0430d8cdb78070b4c55a"),
+    # Aumasson and Bernstein, SipHash, appendix A
+    Routine("siphash", YES, SPLIT, "siphash", -1, f"i64 {0xa129ca6149be45e5}", True),
+    # FIPS 180, FIPS 202: the message abc
+    Routine("sha256", YES, SPLIT, "sha256", 196560,
+            "ba7816bf8f01cfea414140de5dae2223b00361a396177a9cb410ff61f20015ad", True),
+    Routine("sha3", YES, SPLIT, "sha3_256", 196560,
+            "3a985da74fe225b2045c172d6bd390bd855f086e3e9d525b46bfe24511431532", True),
+    # RFC 4231, test case 2
+    Routine("hmac", YES, SPLIT, "hmac", 196528,
+            "5bdcc146bf60754e6a042426089575c75a003f089d2739839dec58b964ec3843", True),
+    # the reference's blake2b-kat, the second vector
+    Routine("blake2b", LEAK, ("constant-time no", "blake2b_simd-1.0.0: "), "blake2b", 196464,
+            "961f6dd1e4dd30f63901690c512e78e4b45e4742ed197c3c5e45c549fd25f2e4"
+            "187b0bc9fe30492b16b0d0bc4ef9b0f34c7003fac09a5ef1532e69430234cebd"),
+]

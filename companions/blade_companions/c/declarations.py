@@ -3,6 +3,7 @@ blade.labels. Licence: public domain (CC0)."""
 from __future__ import annotations
 
 import difflib
+import functools
 import os
 import re
 from dataclasses import dataclass, field
@@ -128,13 +129,34 @@ class Resolver:
 
     def __init__(self, module: Module) -> None:
         self.module = module
-        walk = Walk(module)
-        self.told, self.folders = walk.run(), walk.folders
-        self.names, self.known = names_of(module), by_name(self.told)
+
+    @functools.cached_property
+    def walked(self) -> Tuple[List[Subprogram], Dict[str, str]]:
+        """What DWARF says of functions, and the folders of units."""
+        walk = Walk(self.module)
+        return walk.run(), walk.folders
+
+    @property
+    def told(self) -> List[Subprogram]:
+        return self.walked[0]
+
+    @property
+    def folders(self) -> Dict[str, str]:
+        return self.walked[1]
+
+    @functools.cached_property
+    def names(self) -> Dict[str, Set[int]]:
+        return names_of(self.module)
+
+    @functools.cached_property
+    def known(self) -> Dict[str, List[Subprogram]]:
+        return by_name(self.told)
 
     def place(self, one: Declared) -> str:
         """Where a line stands: its file was named from the folder that its unit was compiled in."""
         path, _, number = one.where.rpartition(":")
+        if os.path.exists(path):
+            return f"{shown(path)}:{number}"
         tried = [path] + [os.path.join(self.folders[unit], path) for unit in sorted(one.units)
                           if unit in self.folders]
         return f"{shown(next((it for it in tried if os.path.exists(it)), path))}:{number}"

@@ -52,6 +52,16 @@ class RustBuilder(Builder):
         self.crates = [self.compiled(at, crate, records, defined) for at, crate in enumerate(crates)]
         return self.crates + others
 
+    def link(self, objects: List[str]) -> Module:
+        try:
+            return super().link(objects)
+        except Bad as bad:
+            if not str(bad).startswith("limit: module"):
+                raise
+            raise Stop(BUILD, "cargo-blade: error: the module has more than 4 MiB with its lines: it links much of "
+                       "std (println!, format!, panics with a hook): write #![no_std], or don't print in what is "
+                       "verified") from None
+
     def other(self, at: int, one: Input) -> str:
         """An object that no crate's code is in."""
         path = f"{self.folder}/{at}.other.o"

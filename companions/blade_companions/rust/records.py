@@ -6,7 +6,7 @@ import re
 from typing import Dict, List, NamedTuple, Sequence, Tuple
 
 from ..c.declarations import INCLUDED
-from ..c.ir import MENTION, plain, split_at_commas, unescaped
+from ..c.ir import MENTION, SYMBOL, inside, plain, split_at_commas, unescaped
 from ..c.opaque import Named
 from ..formats.reading import Bad
 
@@ -17,8 +17,9 @@ USED = ("@llvm.used ", "@llvm.compiler.used ")
 KINDS = ("secret-param", "public-result", "secret-memory")
 STRING = re.compile(r'(%?)"([^"]*)"')
 ODD = re.compile(r"[^-\w.$\\]")  # in a name of a type: it would be read as more than a name
-PANICS = re.compile(r"declare (.*?)(@(?:\"[^\"]*\"|[-\w.$]+))\((.*)\)((?: unnamed_addr| local_unnamed_addr)?)"
-                    r"((?: #\d+)?)(.*)$")
+DECLARED = re.compile(rf"declare (.*?)({SYMBOL})\(")
+CALL = re.compile(rf"(\s+(?:tail |notail )?call [^@]*)({SYMBOL})\(")
+TRAPPING = ".0"  # behind the symbol of a function that traps in place of another one
 
 
 class Record(NamedTuple):
@@ -98,27 +99,38 @@ def without(line: str, symbols: Sequence[str]) -> str:
         end + 1 :]
 
 
-def is_noreturn(groups: Dict[str, str], words: str) -> bool:
-    return "noreturn" in words or any("noreturn" in groups.get(one, "").split()
-                                      for one in re.findall(r"#\d+", words))
+def panics(lines: Sequence[str], defined: Sequence[str]) -> List[str]:
+    """The functions of Rust's library that never return, as LLVM's text spells them: those by which Rust
+    panics."""
+    known, found = set(defined), []
+    groups = {line.split()[1]: line for line in lines if line.startswith("attributes #")}
+    for line in lines:
+        told = DECLARED.match(line)
+        if told and plain(told[2]).startswith(("_ZN", "_R")) and plain(told[2]) not in known:
+            words = line[told.end() + len(inside(line, told.end() - 1)) :]
+            if "noreturn" in words or any("noreturn" in groups.get(one, "").split()
+                                          for one in re.findall(r"#\d+", words)):
+                found.append(told[2])
+    return found
 
 
 def with_traps(lines: Sequence[str], defined: Sequence[str]) -> List[str]:
-    """The lines with a body for each function of Rust's library that never returns: it traps. These are the
-    functions by which Rust panics."""
-    known, made, is_needed = set(defined), [], False
-    groups = {line.split()[1]: line for line in lines if line.startswith("attributes #")}
+    """The lines with a function that traps in place of each one by which Rust panics. It gets no arguments: they
+    are of use for a message alone, which nobody would see."""
+    wanted, made = set(panics(lines, defined)), []
     for line in lines:
-        found = PANICS.match(line) if line.startswith("declare ") else None
-        symbol = plain(found[2]) if found else ""
-        if (found and symbol.startswith(("_ZN", "_R")) and symbol not in known
-                and is_noreturn(groups, found[5] + found[6])):
-            kind = re.sub(r"\b(?:dso_local|external|hidden) ", "", found[1])
-            made += [f"define linkonce_odr hidden {kind}{found[2]}({found[3]}){found[4]} noinline{found[5]} {{",
-                     "  call void @llvm.trap()", "  unreachable", "}"]
-            is_needed = True
-        else:
-            made.append(line)
-    if is_needed and not any(line.startswith("declare void @llvm.trap()") for line in lines):
+        found = CALL.match(line) if " call " in line else None
+        if found and found[2] in wanted:
+            rest = line[found.end() + len(inside(line, found.end() - 1)) :]
+            line = f"{found[1]}{trapping(found[2])}({rest}"
+        made.append(line)
+    for one in sorted(wanted):
+        made += [f"define linkonce_odr hidden void {trapping(one)}() noinline noreturn nounwind cold {{",
+                 "  call void @llvm.trap()", "  unreachable", "}"]
+    if wanted and not any(line.startswith("declare void @llvm.trap()") for line in lines):
         made.append("declare void @llvm.trap()")
     return made
+
+
+def trapping(symbol: str) -> str:
+    return f'{symbol[:-1]}{TRAPPING}"' if symbol.endswith('"') else symbol + TRAPPING

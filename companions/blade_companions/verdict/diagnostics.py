@@ -10,6 +10,7 @@ from ..c.dwarf import subprograms
 from .flow import CONDITION, DEMANDED, DIVISION, LOAD_ADDRESS, STORE_ADDRESS, STORED, End, Findings, Origin
 from .guesses import LEAK, UNKNOWN, Guess, Guesser, settle
 from .libraries import Owners
+from .panics import panic_text
 from .uses import Uses
 from ..c.lines import NOWHERE, Line, Lines
 from ..c.paths import shown
@@ -78,6 +79,7 @@ class Problem:
     loaded: Optional[Step] = None  # the line that loads the secret, where it comes of a memory
     module: str = ""
     offset: int = 0  # in the module's file
+    panic: str = ""  # of a branch by which Rust panics, what it checks
 
 
 @dataclass
@@ -269,16 +271,20 @@ def told_of(found: Findings, lines: Lines, causes: Sequence[Cause], protects: Se
         at = place_of(lines, way.end.position, way.sites)
         line, spot = lines.line(at), lines.spot(at)
         rule = rule_of(way.end, lines.instruction(way.end.position))
+        panic = panic_text(found.image, lines, way.end.position)
         key = (rule.name, line.path, line.number,
                line.column) if line.number else (rule.name, way.end.position)
         if key in problems:
             problems[key].ends += 1
             continue
         name = line.function or (spot.linked.name if spot else "")
+        steps = steps_of(way, found, lines, known)
+        if panic:
+            steps[-1].message += f": {panic}"
         problems[key] = Problem(
             rule, line, way.end.position, name, lines.instruction(way.end.position),
-            steps_of(way, found, lines, known), 1, advice(why.get(way.origin), way, rule),
-            loaded_at(way, lines), spot.linked.module.path if spot else "", spot.row.place if spot else 0)
+            steps, 1, advice(why.get(way.origin), way, rule),
+            loaded_at(way, lines), spot.linked.module.path if spot else "", spot.row.place if spot else 0, panic)
     ordered = sorted(problems.values(),
                      key=lambda one: (one.line.path, one.line.number, one.line.column, one.position))
     sources = []
@@ -317,7 +323,7 @@ def of_text(one: Problem, image: str) -> str:
 
 
 def problem_text(one: Problem) -> str:
-    return one.rule.text + (f" ({one.instruction})" if one.instruction
+    return one.rule.text + (f": {one.panic}" if one.panic else "") + (f" ({one.instruction})" if one.instruction
                             else "") + (f", at {one.ends} places of this line" if one.ends > 1 else "")
 
 

@@ -21,6 +21,7 @@ WASI_FOLDER = re.compile(r"(?:.*/)?(?:dlmalloc/(?:src|include)|libc-(?:bottom|to
 BUILTINS_FOLDER = re.compile(r".*/compiler-rt/lib/builtins/")
 NAMED = 3  # so many functions of a library are named
 KNOWN = (WASI, FREESTANDING, BUILTINS)
+OF_RUST = "rustc's library"
 
 
 class Library(NamedTuple):
@@ -86,7 +87,8 @@ class Owners:
             by_owner.setdefault(self.owner(one.line), []).append(one)
         own = by_owner.pop(OWN, [])
         if not own:
-            others = [name for name in by_owner if name not in KNOWN]
+            named = {*KNOWN, *(name for _, name in self.sources.libraries)}
+            others = [name for name in by_owner if name not in named and not name.startswith(OF_RUST)]
             own = [one for name in others for one in by_owner.pop(name)]
         return own, [Library(name, some) for name, some in
                      sorted(by_owner.items(), key=lambda it: (-len(it[1]), it[0]))]
