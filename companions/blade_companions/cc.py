@@ -1,61 +1,67 @@
-"""From C to a verdict in one command: compiles, links, labels, hardens, verifies, and tells by lines of C
-where a secret goes. It runs clang, wasm-ld, wasm-opt and blade; -v shows how. Licence: public domain (CC0).
+"""From C to a verdict in one command: compiles, links, labels, hardens and verifies, and names the lines of C
+through which a secret flows. It runs clang, wasm-ld, wasm-opt and blade; -v prints these commands. Licence:
+public domain (CC0).
 
-    blade-cc [WORDS] FILE.c .. [-o OUT]        writes OUT/ (NAME.blade): NAME.wasm, labelled; NAME.img,
-                                               NAME.json; report.txt, problems.json, NAME.sarif
-    blade-cc [WORDS] FILE.o .. -o NAME.wasm    the same, with the rest in NAME.blade/: for make and CMake
-    blade-cc [WORDS] -c FILE.c -o FILE.o       compiles alone
+    blade-cc [OPTIONS] FILE.c ... [-o OUT]     writes the folder OUT/ (NAME.blade): NAME.wasm with labels,
+                                               NAME.img, NAME.json, report.txt, problems.json, NAME.sarif
+    blade-cc [OPTIONS] FILE.o ... -o NAME.wasm the same, with the other files in NAME.blade/: for make and
+                                               CMake
+    blade-cc [OPTIONS] -c FILE.c -o FILE.o     only compiles
 
-WORDS are clang's and, behind -Wl, wasm-ld's. Besides:
-    --label 'KIND NAME ..'   labels as blade-label takes them, beside those of blade.h in the sources
-    --ledger, --vault        with -DLEDGER or -DVAULT, and the module of the accessors
+OPTIONS are clang's, wasm-ld's after -Wl, and these:
+    --label 'KIND NAME ...'  adds labels as blade-label takes them to those of blade.h in the sources
+    --ledger, --vault        together with -DLEDGER or -DVAULT: adds the module of the accessors
     --sysroot FOLDER         where wasi-libc is: FOLDER/include/wasm32-wasi and FOLDER/lib/wasm32-wasi (if not
                              given, the folder of the variable WASI_SYSROOT, else /usr)
-    --config-h[=NAME.h]      makes an empty config.h, or NAME.h, that counts if no folder of -I has another
-                             one, and says where it is: for code whose configure didn't run
-    --memory PAGES           so many pages of memory, first and last (3, or as many as the data takes and one)
-    --export NAME            exports this function, and only such (all that the objects give to others,
-                             where the code doesn't say)
-    --counts [EXPORT=]START  sets protects by the counts of a run from a start file; may be given again
-    --start [EXPORT=]START   after a no, looks for two runs from a start file that show the leak, for ten
-                             seconds (blade-witness)
+    --config-h[=NAME.h]      makes an empty config.h, or NAME.h, for code whose configure script did not run,
+                             and prints where it is; a file of this name in a folder of -I comes first
+    --memory PAGES           the number of pages of the memory, which does not grow (3, or one more than the
+                             data takes)
+    --export NAME            exports only this function; may be given again (if not given, the functions that
+                             the sources mark as exported, else all that are not static)
+    --counts [EXPORT=]START  chooses protects by how often a run from a start file executes each load; may be
+                             given again
+    --start [EXPORT=]START   after a no, searches for ten seconds for two runs that show the leak, beginning
+                             with a start file (blade-witness)
     --keep M:OFFSET:SIZE     with --start: these bytes of the start file are public; may be given again
-    --public-callers=F,..    calls inside of the module may give public values for secret parameters of F
-    --no-assumptions         clang assumes nothing of C, as in units with BLADE_SECRET: for -c of other units
-                             beside such
-    --part library|client    hardens one side of an interface (blade part) and makes OUT/NAME.part; of a
+    --public-callers=F,...   calls within the module may pass public values as secret parameters of F
+    --no-assumptions         clang may not use what the C standard leaves undefined, as in units with
+                             BLADE_SECRET; with -c, for other units of the same program
+    --part library|client    hardens one side of an interface (blade part) and makes OUT/NAME.part; for a
                              library also a stub, OUT/stub/NAME.wasm (blade-stub)
     --interface FILE         with --part: the interface file
     --stub STUB.wasm         with --part client: the stub of a library; may be given again
-    --unlabelled             nothing is declared secret, and that is meant
+    --unlabelled             nothing is declared secret, and this is intended
     --split[=auto|always|never]
                              after a no, moves public numbers that pass through C's secret memory to a public
-                             one, the shadow, and judges again (blade-split); always: after a yes, too, and it
-                             is an error if that fails. What is made then is shadow.wasm and a split
-                             NAME.wasm. Without a recorded run (--record) nothing is tried, and a warning says
+                             memory, the shadow, and judges again (blade-split). always: also after a yes, and
+                             a split that fails is an error. The modules made are shadow.wasm and a split
+                             NAME.wasm. If no run is recorded (--record), nothing is tried, and a warning says
                              so
-    --record [EXPORT=]START  a start file whose run is recorded for --split, besides those of --counts and
-                             --start; may be given again
+    --record [EXPORT=]START  a start file whose run is recorded for --split, in addition to those of --counts
+                             and --start; may be given again
     --public OFFSET:SIZE     for --split: these bytes of C's memory are public at the start
-    --native                 also writes OUT/native/ (NAME.blade/native/): NAME.c, NAME.h and NAME.o for this
-                             machine, if the verdict is yes (blade-native)
-    --no-fail                if the verdict is no, the status is 0 all the same, what is made is kept, and
-                             violations are warnings, not errors
+    --native                 if the verdict is yes, also writes OUT/native/ (NAME.blade/native/): NAME.c,
+                             NAME.h and NAME.o for this machine (blade-native)
+    --no-fail                after a no, ends with status 0, keeps what was made, and prints violations as
+                             warnings, not as errors
     --limit N                prints at most N violations (20)
-    --all                    prints violations in libraries, too; otherwise wasi-libc and each folder outside
-                             the current one is one line with a count
-    --allocator[=BYTES]      malloc and free whose state is not in C's memory, with BYTES of heap (262,144)
-    --name NAME              the module's name (that of OUT.wasm or of the only file; of several files that
-                             of the folder OUT/)
-    --blade PROGRAM          the program (BLADE, else the one of this repository or release, else blade)
-    -v                       shows each command, as it could be typed
+    --all                    also prints violations in libraries; otherwise wasi-libc and each folder outside
+                             of the current one is one line with a count
+    --allocator[=BYTES]      adds malloc and free with BYTES of heap (262,144), which keep their state outside
+                             of C's memory
+    --name NAME              the module's name (if not given, that of OUT.wasm or of the only file, or for
+                             several files that of the folder OUT/)
+    --blade PROGRAM          the program (if not given, that of the variable BLADE, else the one of this
+                             repository or release, else blade)
+    -v                       prints each command, so that it can be typed
 
-OUT is a file where it has an ending, or where nothing but objects is given; a folder by a / at its end, or
-else. Where the verdict is no, what is made stands in OUT/refused/ alone, and the folder is marked as old, so
-that make doesn't take it for made.
-Status: 0 constant-time; 1 not; 2 usage; 3 clang, the linker or blade refuses the files, or a run for --counts
-fails; 4 gave up: a tool is missing or too old, or two tools don't agree; 5 a label isn't right or was lost,
-or there is none."""
+OUT is a folder if it ends with a slash, or if it has no ending and a source is given. Otherwise OUT is a
+file. After a no, all files are in OUT/refused/, and the folder's time is set back, so that make builds it
+again.
+Status: 0 constant-time; 1 not constant-time; 2 usage; 3 clang, the linker or blade refuses the files, or a
+run for --counts fails; 4 gave up: a tool is missing or too old, or two tools disagree; 5 a label is wrong or
+was lost, or there is none."""
 from __future__ import annotations
 
 import fcntl

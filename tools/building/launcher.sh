@@ -12,24 +12,24 @@ is constant-time
                                                              and prints the report
   blade lower IMAGE MODULE...                                writes the image without protects
   blade interp EXPORT START MODULE... [--steps N]            runs a function of the modules
-  blade run IMAGE EXPORT START [--steps N] [--counts FILE]   runs a function of an image, and writes how
-                                                             often its sites were executed
-  blade spec IMAGE EXPORT TRACE START                        takes a trace's directives on the machine that
-                                                             speculates
-  blade twin IMAGE EXPORT TRACE START START2                 does so from two start files, and says whether
-                                                             they are observed alike
-  blade forward IMAGE EXPORT TRACE START START2              does so where loads take values of stores, and
-                                                             says whether the program is safe there
-  blade predict IMAGE EXPORT TRACE START [--steps N]         drives the machine by a predictor and a cache,
-                                                             and writes the trace that it chose
-  blade part ROLE IMAGE IFACE MODULE...                      hardens modules on one side of an interface, as
-                                                             client or library
-  blade join IMAGE IFACE CLIENT LIBRARY                      joins a client and a library that were hardened
-                                                             apart
+  blade run IMAGE EXPORT START [--steps N] [--counts FILE]   runs a function of an image; with --counts, also
+                                                             writes how often each site was executed
+  blade spec IMAGE EXPORT TRACE START                        runs an image on the model of a speculating
+                                                             processor, as a trace directs it
+  blade twin IMAGE EXPORT TRACE START START2                 runs an image there from two start files, and
+                                                             says whether an observer can tell the runs apart
+  blade forward IMAGE EXPORT TRACE START START2              the same on a model that forwards stores to
+                                                             loads; also says whether the image is safe there
+  blade predict IMAGE EXPORT TRACE START [--steps N]         lets a branch predictor and a cache direct the
+                                                             model, and writes the trace
+  blade part ROLE IMAGE IFACE MODULE...                      hardens modules on one side of an interface; ROLE
+                                                             is client or library
+  blade join IMAGE IFACE CLIENT LIBRARY                      joins a client and a library that blade part made
   blade verify IMAGE CERT                                    checks a certificate against an image, and the
                                                              image's protects and labels
-  blade gen SEED SIZE                                        makes a module by a number, and hardens it
-Words, files, texts and exit statuses: $here/docs/CLI.md
+  blade gen SEED SIZE                                        makes a module from a number and a size, and
+                                                             hardens it
+Commands, options, files and exit statuses: $here/docs/CLI.md
 COMMANDS
 }
 
@@ -192,8 +192,8 @@ refuse_changed() {
             0) ;;
             5)
                 refused=1
-                echo "blade: $file: its code was changed after it was labelled, so its labels may name other" \
-                    "functions; nothing is done: blade-label --replace labels it again" >&2
+                echo "blade: $file: its code was changed after it was labelled, so its labels may name" \
+                    "other functions; nothing is done: blade-label --replace labels it again" >&2
                 ;;
             *)
                 echo "blade: warning: $file: nothing says whether its labels still fit its code, since" \
