@@ -1,10 +1,10 @@
-"""From Rust to a verdict in one command: builds a crate, labels, hardens, verifies, and tells by lines of Rust
-where a secret goes. It runs cargo, rustc, clang, wasm-ld, wasm-opt and blade; -v shows how. Licence: public
-domain (CC0).
+"""From Rust to a verdict in one command: builds a crate, labels, hardens, verifies, and tells by lines of
+Rust where a secret goes. It runs cargo, rustc, clang, wasm-ld, wasm-opt and blade; -v shows how. Licence:
+public domain (CC0).
 
-    cargo blade [WORDS] [-o OUT/]        builds the crate in this folder, and writes OUT/ (target/blade/NAME/):
-                                         NAME.wasm, labelled; NAME.img, NAME.json; report.txt, problems.json,
-                                         NAME.sarif
+    cargo blade [WORDS] [-o OUT/]        builds the crate in this folder, and writes OUT/
+                                         (target/blade/NAME/): NAME.wasm, labelled; NAME.img, NAME.json;
+                                         report.txt, problems.json, NAME.sarif
 
 The macros secret_param!, secret_memory! and public_result! of the crate blade-labels say what is secret.
 WORDS:
@@ -44,20 +44,19 @@ The variables RUSTC, CARGO and RUSTFLAGS count as they do for cargo. rustc needs
 wasm32-unknown-unknown (Debian: libstd-rust-dev-wasm32), and clang has to be as new as rustc's LLVM. Where the
 standard library panics the module traps, without a message.
 Status: 0 constant-time; 1 not; 2 usage; 3 cargo, clang, the linker or blade refuses the files, or a run for
---counts fails; 4 gave up: a tool is missing or too old, or two tools don't agree; 5 a label isn't right or was
-lost, or there is none."""
+--counts fails; 4 gave up: a tool is missing or too old, or two tools don't agree; 5 a label isn't right or
+was lost, or there is none."""
 from __future__ import annotations
 
 import os
 import sys
 from dataclasses import dataclass, field
-from typing import Callable, Dict, List, Optional, Sequence, Tuple
+from typing import Callable, Dict, List, Optional, Sequence
 
 from . import printing
 from .c import splitting
 from .c.arguments import BUILD, USAGE, Asked, Stop, asked_by
 from .c.sources import Sources
-from .c.tools import HERE
 from .cc import Driver, mark, write_errors
 from .ending import ended, is_answered
 from .formats.module import Module
@@ -68,11 +67,21 @@ from .rust.demangling import demangled
 from .statuses import YES
 
 KINDS = {"--lib": "lib", "--example": "example", "--test": "test"}
-OF_CARGO = {"--features": 1, "-F": 1, "--all-features": 0, "--no-default-features": 0, "--offline": 0,
-            "--locked": 0, "--frozen": 0, "-j": 1, "--jobs": 1}
+OF_CARGO = {
+    "--features": 1,
+    "-F": 1,
+    "--all-features": 0,
+    "--no-default-features": 0,
+    "--offline": 0,
+    "--locked": 0,
+    "--frozen": 0,
+    "-j": 1,
+    "--jobs": 1,
+}
 # Words of blade-cc that hold here as well: with what stands behind them, and without.
-WITH = frozenset("-o --blade --memory --counts --start --keep --public-callers --record --public "
-                 "--limit".split())
+WITH = frozenset(
+    "-o --blade --memory --counts --start --keep --public-callers --record --public --limit".split()
+)
 ALONE = frozenset("--unlabelled --split --native --no-fail --all -v".split())
 
 
@@ -102,7 +111,9 @@ def words_of(given: Sequence[str]) -> Words:
         "--package": lambda value: setattr(made, "package", value),
         "--profile": lambda value: setattr(made, "profile", value),
         "--page": lambda value: setattr(made, "page", value),
-        "--example": set_kind("example"), "--test": set_kind("test")}
+        "--example": set_kind("example"),
+        "--test": set_kind("test"),
+    }
     while rest:
         word = rest.pop(0)
         name, is_joined, value = word.partition("=")
@@ -132,11 +143,14 @@ class CargoDriver(Driver):
         asked.name, asked.sources = target.name.replace("-", "_"), [target.source]
         asked.out = (asked.out or f"{target.folder}/{asked.name}").rstrip("/") + "/"
         super().__init__(asked)
-        self.builder = RustBuilder(asked, self.runner, f"{self.folder}/build", target, given.cargo, given.profile)
+        self.builder = RustBuilder(
+            asked, self.runner, f"{self.folder}/build", target, given.cargo, given.profile
+        )
 
     def label(self, linked: Module, module: Module) -> str:
-        self.asked.public_callers = [symbol for name in self.asked.public_callers
-                                     for symbol in symbols_of(linked, name)]
+        self.asked.public_callers = [
+            symbol for name in self.asked.public_callers for symbol in symbols_of(linked, name)
+        ]
         return super().label(linked, module)
 
     def sources(self) -> Sources:
@@ -149,7 +163,9 @@ class CargoDriver(Driver):
         return found
 
     def put(self, name: str, data: bytes) -> None:
-        super().put(name, words.spoken(data.decode("utf-8", "surrogateescape")).encode("utf-8", "surrogateescape"))
+        super().put(
+            name, words.spoken(data.decode("utf-8", "surrogateescape")).encode("utf-8", "surrogateescape")
+        )
 
     def explaining(self, made: str) -> List[str]:
         return super().explaining(made) + ["--page", self.given.page] * bool(self.given.page)
@@ -157,8 +173,11 @@ class CargoDriver(Driver):
 
 def symbols_of(module: Module, name: str) -> List[str]:
     """The functions that a name or a path of Rust means, by their symbols."""
-    found = [symbol for symbol in module.names.values()
-             if demangled(symbol) == name or demangled(symbol).endswith(f"::{name}")]
+    found = [
+        symbol
+        for symbol in module.names.values()
+        if demangled(symbol) == name or demangled(symbol).endswith(f"::{name}")
+    ]
     return found or [name]
 
 
@@ -172,8 +191,11 @@ def status_of(given: Sequence[str], usage: str) -> int:
         asked = asked_by(asked_for.others)
         splitting.refuse_words(asked)
         cargo.tools()
-        driver = CargoDriver(asked_for, asked, cargo.target_of(asked_for.manifest, asked_for.package,
-                                                               asked_for.kind, asked_for.name))
+        driver = CargoDriver(
+            asked_for,
+            asked,
+            cargo.target_of(asked_for.manifest, asked_for.package, asked_for.kind, asked_for.name),
+        )
         status = driver.all()
     except Stop as stop:
         write_errors(driver, stop)

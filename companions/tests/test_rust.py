@@ -15,26 +15,34 @@ HERE = os.path.dirname(os.path.dirname(os.path.realpath(__file__)))
 NEWER = {
     "_RNvC6_123foo3bar": "123foo::bar",
     "_RNCNCNgCs6DXkGYLi8lr_2cc5spawn00B5_": "cc::spawn::{closure#0}::{closure#0}",
-    "_RNCINkXs25_NgCsbmNqQUJIY6D_4core5sliceINyB9_4IterhENuNgNoBb_4iter8iterator8Iterator9rpositionNCNgNpB9_6memchr"
-    "7memrchrs_0E0Bb_": "<core::slice::Iter<u8> as core::iter::iterator::Iterator>::rposition::<core::slice::"
-    "memchr::memrchr::{closure#1}>::{closure#0}",
-    "_RINbNbCskIICzLVPPb_5alloc5alloc8box_freeDINbNiB4_5boxed5FnBoxuEp6OutputuEL_ECs1iopQbuBiw2_3std":
-    "alloc::alloc::box_free::<dyn alloc::boxed::FnBox<(), Output = ()>>",
+    "_RNCINkXs25_NgCsbmNqQUJIY6D_4core5sliceINyB9_4IterhENuNgNoBb_4iter8iterator8Iterator9rpositionNCNgNp"
+    "B9_6memchr7memrchrs_0E0Bb_": (
+        "<core::slice::Iter<u8> as core::iter::iterator::Iterator>::rposition::<core::slice::"
+        "memchr::memrchr::{closure#1}>::{closure#0}"
+    ),
+    "_RINbNbCskIICzLVPPb_5alloc5alloc8box_freeDINbNiB4_5boxed5FnBoxuEp6OutputuEL_ECs1iopQbuBiw2_3std": (
+        "alloc::alloc::box_free::<dyn alloc::boxed::FnBox<(), Output = ()>>"
+    ),
     "_RMC0INtC8arrayvec8ArrayVechKj7b_E": "<arrayvec::ArrayVec<u8, 123>>",
-    "_RNqCs4fqI2P2rA04_11utf8_identsu30____7hkackfecea1cbdathfdh9hlq6y":
-    "utf8_idents::\u10e1\u10d0\u10ed\u10db\u10d4\u10da\u10d0\u10d3_"
-    "\u10d2\u10d4\u10db\u10e0\u10d8\u10d4\u10da\u10d8_\u10e1\u10d0\u10d3\u10d8\u10da\u10d8",
+    "_RNqCs4fqI2P2rA04_11utf8_identsu30____7hkackfecea1cbdathfdh9hlq6y": (
+        "utf8_idents::\u10e1\u10d0\u10ed\u10db\u10d4\u10da\u10d0\u10d3_"
+        "\u10d2\u10d4\u10db\u10e0\u10d8\u10d4\u10da\u10d8_\u10e1\u10d0\u10d3\u10d8\u10da\u10d8"
+    ),
 }
 LEGACY = {
     "_ZN4sha26sha2564soft8compress17h276f4c7e0afd42b4E": "sha2::sha256::soft::compress",
-    "_ZN71_$LT$Test$u20$$u2b$$u20$$u27$static$u20$as$u20$foo..Bar$LT$Test$GT$$GT$3bar17h930b740aa94f1d3aE":
-    "<Test + 'static as foo::Bar<Test>>::bar",
-    "_ZN4core5slice29_$LT$impl$u20$$u5b$T$u5d$$GT$15copy_from_slice17len_mismatch_fail17h740a78e4b354ca33E":
-    "core::slice::<impl [T]>::copy_from_slice::len_mismatch_fail",
+    "_ZN71_$LT$Test$u20$$u2b$$u20$$u27$static$u20$as$u20$foo..Bar$LT$Test$GT$$GT$3bar17h930b740aa94f1d3aE": (
+        "<Test + 'static as foo::Bar<Test>>::bar"
+    ),
+    "_ZN4core5slice29_$LT$impl$u20$$u5b$T$u5d$$GT$15copy_from_slice17len_mismatch_fail17h740a78e4b354ca33E": (
+        "core::slice::<impl [T]>::copy_from_slice::len_mismatch_fail"
+    ),
 }
-RECORD = ('@a = internal constant <{ i8*, [52 x i8] }> <{ i8* bitcast (i32 (i32)* @look to i8*), [52 x i8] '
-          'c"blade-label 1\\09secret-param\\09look\\09index\\09src/lib.rs:12\\0A" }>, align 4')
-USED = '@llvm.compiler.used = appending global [1 x i8*] [i8* bitcast (<{ i8*, [52 x i8] }>* @a to i8*)]'
+RECORD = (
+    "@a = internal constant <{ i8*, [52 x i8] }> <{ i8* bitcast (i32 (i32)* @look to i8*), [52 x i8] "
+    'c"blade-label 1\\09secret-param\\09look\\09index\\09src/lib.rs:12\\0A" }>, align 4'
+)
+USED = "@llvm.compiler.used = appending global [1 x i8*] [i8* bitcast (<{ i8*, [52 x i8] }>* @a to i8*)]"
 
 
 class Names(unittest.TestCase):
@@ -51,7 +59,9 @@ class Names(unittest.TestCase):
             self.assertEqual(demangled(name), name)
 
     def test_llvm_reads_the_newer_mangling_alike(self) -> None:
-        tool = next(filter(None, map(shutil.which, ("llvm-cxxfilt", "llvm-cxxfilt-19", "llvm-cxxfilt-14"))), None)
+        tool = next(
+            filter(None, map(shutil.which, ("llvm-cxxfilt", "llvm-cxxfilt-19", "llvm-cxxfilt-14"))), None
+        )
         if tool is None:
             self.skipTest("no llvm-cxxfilt here")
         for symbol in NEWER:
@@ -64,8 +74,10 @@ class Names(unittest.TestCase):
         self.assertEqual(shortened("a::b<c>", 30), "a::b<c>")
 
     def test_a_symbol_in_a_text_is_told_as_a_name(self) -> None:
-        self.assertEqual(names_told("call _ZN4sha26sha2564soft8compress17h276f4c7e0afd42b4E.0 here"),
-                         "call sha2::sha256::soft::compress here")
+        self.assertEqual(
+            names_told("call _ZN4sha26sha2564soft8compress17h276f4c7e0afd42b4E.0 here"),
+            "call sha2::sha256::soft::compress here",
+        )
 
 
 class Records(unittest.TestCase):
@@ -84,15 +96,26 @@ class Records(unittest.TestCase):
 
     def test_types_with_blanks_get_names_without(self) -> None:
         text = '%"a::B<c, d>" = type { i32 }\n@s = c"100%"\n%x = load %"a::B<c, d>", %"a::B<c, d>"* @"q r"'
-        self.assertEqual(with_plain_types(text), '%blade.type.0 = type { i32 }\n@s = c"100%"\n'
-                         '%x = load %blade.type.0, %blade.type.0* @"q r"')
+        self.assertEqual(
+            with_plain_types(text),
+            '%blade.type.0 = type { i32 }\n@s = c"100%"\n%x = load %blade.type.0, %blade.type.0* @"q r"',
+        )
 
     def test_a_panic_becomes_a_trap_without_arguments(self) -> None:
-        lines = with_traps(["  call void @_ZN4core9panicking5panic17h118149a781a98a78E(i32 3, i8* getelementptr (i8, "
-                            "i8* @a, i32 1)) #3, !dbg !4",
-                            "declare void @_ZN4core9panicking5panic17h118149a781a98a78E(i32, i8*) #3",
-                            "attributes #3 = { cold noinline noreturn nounwind }"], [])
-        self.assertEqual(lines[0], "  call void @_ZN4core9panicking5panic17h118149a781a98a78E.0() #3, !dbg !4")
+        lines = with_traps(
+            [
+                (
+                    "  call void @_ZN4core9panicking5panic17h118149a781a98a78E(i32 3, i8* getelementptr (i8, "
+                    "i8* @a, i32 1)) #3, !dbg !4"
+                ),
+                "declare void @_ZN4core9panicking5panic17h118149a781a98a78E(i32, i8*) #3",
+                "attributes #3 = { cold noinline noreturn nounwind }",
+            ],
+            [],
+        )
+        self.assertEqual(
+            lines[0], "  call void @_ZN4core9panicking5panic17h118149a781a98a78E.0() #3, !dbg !4"
+        )
 
 
 class Words(unittest.TestCase):
@@ -109,9 +132,16 @@ class Words(unittest.TestCase):
                 self.assertTrue(any(piece in flat for piece in (part.strip(), part.strip()[:24])), of_c)
 
     def test_paths_of_crates_are_short(self) -> None:
-        for path, short in (("/usr/share/cargo/registry/sha2-0.10.5/src/a.rs:1", "registry/sha2-0.10.5/src/a.rs:1"),
-                            ("/root/.cargo/registry/src/index.crates.io-6f17d22bba15001f/subtle-2.4.1/src/lib.rs",
-                             "registry/subtle-2.4.1/src/lib.rs"),
-                            ("/rustc/90b35a6239c3d8bdabc530a6a0816f7ff89a0aaf/library/core/src/a.rs",
-                             "rustc/library/core/src/a.rs"), ("src/library.rs:3", "src/library.rs:3")):
+        for path, short in (
+            ("/usr/share/cargo/registry/sha2-0.10.5/src/a.rs:1", "registry/sha2-0.10.5/src/a.rs:1"),
+            (
+                "/root/.cargo/registry/src/index.crates.io-6f17d22bba15001f/subtle-2.4.1/src/lib.rs",
+                "registry/subtle-2.4.1/src/lib.rs",
+            ),
+            (
+                "/rustc/90b35a6239c3d8bdabc530a6a0816f7ff89a0aaf/library/core/src/a.rs",
+                "rustc/library/core/src/a.rs",
+            ),
+            ("src/library.rs:3", "src/library.rs:3"),
+        ):
             self.assertEqual(words.told(f"in {path} here"), f"in {short} here")

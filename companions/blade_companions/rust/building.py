@@ -25,8 +25,15 @@ PLAIN_POINTERS = 15  # the first clang whose pointers have no type
 class RustBuilder(Builder):
     """Builds a target of cargo in a folder."""
 
-    def __init__(self, asked: Asked, runner: Runner, folder: str, target: cargo.Target, words: Sequence[str],
-                 profile: str) -> None:
+    def __init__(
+        self,
+        asked: Asked,
+        runner: Runner,
+        folder: str,
+        target: cargo.Target,
+        words: Sequence[str],
+        profile: str,
+    ) -> None:
         super().__init__(asked, runner, folder)
         self.target, self.words, self.profile = target, list(words), profile
         self.linked = cargo.Linked()
@@ -39,8 +46,13 @@ class RustBuilder(Builder):
         self.packages = cargo.packages(messages)
         self.linked = cargo.unpacked(cargo.artifact(messages, self.target))
         if not self.linked.exports:
-            raise Stop(BUILD, f"cargo-blade: error: {self.target.name} gives no function to others: write "
-                       '#[no_mangle] and pub extern "C" in front of one')
+            raise Stop(
+                BUILD,
+                (
+                    f"cargo-blade: error: {self.target.name} gives no function to others: write "
+                    '#[no_mangle] and pub extern "C" in front of one'
+                ),
+            )
         self.asked.links += ["--no-demangle", *(f"--export={name}" for name in self.linked.exports)]
         crates = [self.read(at, one) for at, one in enumerate(self.linked.objects) if one.is_bitcode]
         others = [self.other(at, one) for at, one in enumerate(self.linked.objects) if not one.is_bitcode]
@@ -58,9 +70,14 @@ class RustBuilder(Builder):
         except Bad as bad:
             if not str(bad).startswith("limit: module"):
                 raise
-            raise Stop(BUILD, "cargo-blade: error: the module has more than 4 MiB with its lines: it links much of "
-                       "std (println!, format!, panics with a hook): write #![no_std], or don't print in what is "
-                       "verified") from None
+            raise Stop(
+                BUILD,
+                (
+                    "cargo-blade: error: the module has more than 4 MiB with its lines: it links much of std"
+                    " (println!, format!, panics with a hook): write #![no_std], or don't print in what is"
+                    " verified"
+                ),
+            ) from None
 
     def other(self, at: int, one: Input) -> str:
         """An object that no crate's code is in."""
@@ -72,15 +89,35 @@ class RustBuilder(Builder):
         """LLVM's text of a crate, as rustc wrote it."""
         tools, to = cargo.tools(), f"{self.folder}/{at}.bc"
         written_to(to, one.data)
-        done = self.runner.run([tools.clang, "-x", "ir", "-S", "-emit-llvm", "-Xclang", "-disable-llvm-passes",
-                                "-fno-discard-value-names", "-o", "-", to])
+        done = self.runner.run(
+            [
+                tools.clang,
+                "-x",
+                "ir",
+                "-S",
+                "-emit-llvm",
+                "-Xclang",
+                "-disable-llvm-passes",
+                "-fno-discard-value-names",
+                "-o",
+                "-",
+                to,
+            ]
+        )
         if done.status:
-            raise Stop(LABELS, f"cargo-blade: error: {os.path.basename(one.path)}: bitcode that {tools.clang} "
-                       f"can't read (rustc writes LLVM {tools.llvm}) [blade-label]")
+            raise Stop(
+                LABELS,
+                (
+                    f"cargo-blade: error: {os.path.basename(one.path)}: bitcode that {tools.clang} "
+                    f"can't read (rustc writes LLVM {tools.llvm}) [blade-label]"
+                ),
+            )
         try:
             return crate_of(one.path, done.out, tools.clang_version >= PLAIN_POINTERS)
         except Bad as bad:
-            raise Stop(LABELS, f"cargo-blade: error: {os.path.basename(one.path)}: {bad} [blade-label]") from None
+            raise Stop(
+                LABELS, f"cargo-blade: error: {os.path.basename(one.path)}: {bad} [blade-label]"
+            ) from None
 
     def compiled(self, at: int, crate: Crate, records: Sequence[Record], defined: Sequence[str]) -> str:
         base = f"{self.folder}/{at}"
@@ -89,17 +126,22 @@ class RustBuilder(Builder):
         except Bad as bad:
             raise Stop(LABELS, f"cargo-blade: error: {bad} [blade-label]") from None
         written_to(f"{base}.ll", text.encode("utf-8", "surrogateescape"))
-        done = self.runner.run([cargo.tools().clang, *TARGET, self.linked.level, "-w", "-c", "-o", f"{base}.o",
-                                f"{base}.ll"])
+        done = self.runner.run(
+            [cargo.tools().clang, *TARGET, self.linked.level, "-w", "-c", "-o", f"{base}.o", f"{base}.ll"]
+        )
         if done.status:
-            raise Stop(BUILD, done.errors.rstrip(), f"cargo-blade: error: clang doesn't compile "
-                       f"{os.path.basename(crate.path)}")
+            raise Stop(
+                BUILD,
+                done.errors.rstrip(),
+                f"cargo-blade: error: clang doesn't compile {os.path.basename(crate.path)}",
+            )
         return f"{base}.o"
 
     def library(self, missing: Set[str]) -> List[str]:
         """The objects of the standard library that the crates need."""
-        done = self.runner.run([*self.linked_by, *self.linked.library, "--trace", "-o",
-                                f"{self.folder}/traced.wasm"])
+        done = self.runner.run(
+            [*self.linked_by, *self.linked.library, "--trace", "-o", f"{self.folder}/traced.wasm"]
+        )
         if done.status:
             return []
         wanted = set(found.groups() for found in map(TRACED.match, done.out.splitlines()) if found)
@@ -122,5 +164,3 @@ class RustBuilder(Builder):
         known = self.compiler.known_to_clang(set(wanted)) if wanted else []
         inputs = [(one, "") for one in self.inputs() if os.path.abspath(one.path) not in self.members]
         return [*copies(inputs, wanted, known), *unseen(linked, known)]
-
-

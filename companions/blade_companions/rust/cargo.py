@@ -22,15 +22,35 @@ from ..printing import printable
 TARGET = "wasm32-unknown-unknown"
 COLLECT = os.path.join(os.path.dirname(os.path.realpath(__file__)), "collect")
 # One unit a crate, as it comes from rustc: what is inlined or dropped is decided behind the labels.
-FLAGS = ["--cfg", "blade", "-C", "linker-plugin-lto", "-C", "no-prepopulate-passes", "-C", "codegen-units=1",
-         "-C", "lto=off", "-C", "debuginfo=2", "-C", "strip=none", "-C", "target-cpu=mvp",
-         "-C", f"linker={COLLECT}", "--emit=llvm-bc"]
+FLAGS = [
+    "--cfg",
+    "blade",
+    "-C",
+    "linker-plugin-lto",
+    "-C",
+    "no-prepopulate-passes",
+    "-C",
+    "codegen-units=1",
+    "-C",
+    "lto=off",
+    "-C",
+    "debuginfo=2",
+    "-C",
+    "strip=none",
+    "-C",
+    "target-cpu=mvp",
+    "-C",
+    f"linker={COLLECT}",
+    "--emit=llvm-bc",
+]
 OF_LINKER = ("__heap_base", "__data_end")  # what rustc exports besides: variables of the linker
 # From this version on rustc itself inlines small functions, in front of LLVM, unless it optimises nothing.
 INLINES = (1, 64)
-FORBIDDEN = re.compile(r"(?:-C\s*)?(?:passes|llvm-args|linker|linker-flavor|link-args?|lto|opt-level|target-cpu|"
-                       r"target-feature|no-prepopulate-passes|codegen-units|linker-plugin-lto|save-temps|"
-                       r"instrument-coverage|profile-use|profile-generate|relocation-model|strip)(?:=.*)?$")
+FORBIDDEN = re.compile(
+    r"(?:-C\s*)?(?:passes|llvm-args|linker|linker-flavor|link-args?|lto|opt-level|target-cpu|"
+    r"target-feature|no-prepopulate-passes|codegen-units|linker-plugin-lto|save-temps|"
+    r"instrument-coverage|profile-use|profile-generate|relocation-model|strip)(?:=.*)?$"
+)
 ENDING = {"lib": "--lib", "example": "--example", "test": "--test", "bin": "--bin"}
 
 
@@ -46,8 +66,8 @@ class Tools(NamedTuple):
 
 @dataclass
 class Target:
-    """What cargo is asked to build: the package, the target's kind, name and source, whether its kind of crate
-    is given, and the folder for what is built."""
+    """What cargo is asked to build: the package, the target's kind, name and source, whether its kind of
+    crate is given, and the folder for what is built."""
 
     package: str
     manifest: str
@@ -80,11 +100,17 @@ def cargo() -> str:
 def asked(words: Sequence[str]) -> str:
     """What a tool answers; one that is missing ends the work."""
     try:
-        done = subprocess.run(words, stdin=subprocess.DEVNULL, capture_output=True, text=True,
-                              errors="replace", check=False)
+        done = subprocess.run(
+            words, stdin=subprocess.DEVNULL, capture_output=True, text=True, errors="replace", check=False
+        )
     except OSError:
-        raise Stop(MISSING, f"cargo-blade: error: there is no {words[0]}: apt-get install rustc cargo, or give "
-                   "it by the variables RUSTC and CARGO") from None
+        raise Stop(
+            MISSING,
+            (
+                f"cargo-blade: error: there is no {words[0]}: apt-get install rustc cargo, or give "
+                "it by the variables RUSTC and CARGO"
+            ),
+        ) from None
     if done.returncode:
         raise Stop(BUILD, *done.stderr.rstrip().split("\n"))
     return done.stdout
@@ -99,8 +125,13 @@ def tools() -> Tools:
         raise Stop(MISSING, f"cargo-blade: error: {rustc()} -vV doesn't say its version and that of LLVM")
     folder = asked([rustc(), "--print", "target-libdir", "--target", TARGET]).strip()
     if not os.path.isdir(folder) or not any(one.startswith("libcore-") for one in os.listdir(folder)):
-        raise Stop(MISSING, f"cargo-blade: error: {rustc()} has no standard library for {TARGET}: apt-get "
-                   f"install libstd-rust-dev-wasm32 (for Debian's rustc), or rustup target add {TARGET}")
+        raise Stop(
+            MISSING,
+            (
+                f"cargo-blade: error: {rustc()} has no standard library for {TARGET}: apt-get "
+                f"install libstd-rust-dev-wasm32 (for Debian's rustc), or rustup target add {TARGET}"
+            ),
+        )
     return Tools(rustc(), (int(version[1]), int(version[2])), int(llvm[1]), *clang_for(int(llvm[1])))
 
 
@@ -113,8 +144,13 @@ def clang_for(llvm: int) -> Tuple[str, int]:
             return name, int(found[1])
         seen += [int(found[1])] if found else []
     why = f"clang is of version {max(seen)}" if seen else "there is no clang"
-    raise Stop(MISSING, f"cargo-blade: error: {rustc()} writes LLVM {llvm}, and {why}: apt-get install "
-               f"clang-{llvm}, or take an older rustc")
+    raise Stop(
+        MISSING,
+        (
+            f"cargo-blade: error: {rustc()} writes LLVM {llvm}, and {why}: apt-get install "
+            f"clang-{llvm}, or take an older rustc"
+        ),
+    )
 
 
 def metadata(manifest: Optional[str]) -> dict:
@@ -127,20 +163,34 @@ def target_of(manifest: Optional[str], package: Optional[str], kind: str, name: 
     told = metadata(manifest)
     packages = told["packages"]
     here = os.path.realpath(manifest or "Cargo.toml")
-    found = ([one for one in packages if one["name"] == package] if package else
-             [one for one in packages if os.path.realpath(one["manifest_path"]) == here]
-             or (packages if len(packages) == 1 else []))
+    found = (
+        [one for one in packages if one["name"] == package]
+        if package
+        else [one for one in packages if os.path.realpath(one["manifest_path"]) == here]
+        or (packages if len(packages) == 1 else [])
+    )
     if len(found) != 1:
         names = ", ".join(one["name"] for one in packages)
         raise Stop(USAGE, f"cargo-blade: error: which package? --package NAME, of {names}")
     targets = [one for one in found[0]["targets"] if fits(one, kind) and name in (None, one["name"])]
     if len(targets) != 1:
         names = ", ".join(one["name"] for one in found[0]["targets"] if fits(one, kind)) or "none"
-        raise Stop(USAGE, f"cargo-blade: error: the package {found[0]['name']} has no {kind} "
-                   f"{name or ''}: {names}".replace(" :", ":"))
+        raise Stop(
+            USAGE,
+            f"cargo-blade: error: the package {found[0]['name']} has no {kind} {name or ''}: {names}".replace(
+                " :", ":"
+            ),
+        )
     one = targets[0]
-    return Target(found[0]["name"], found[0]["manifest_path"], kind, one["name"], one["src_path"],
-                  one["crate_types"] == ["cdylib"], f"{told['target_directory']}/blade")
+    return Target(
+        found[0]["name"],
+        found[0]["manifest_path"],
+        kind,
+        one["name"],
+        one["src_path"],
+        one["crate_types"] == ["cdylib"],
+        f"{told['target_directory']}/blade",
+    )
 
 
 def fits(target: dict, kind: str) -> bool:
@@ -155,9 +205,19 @@ def flags_of_user() -> List[str]:
     for at, word in enumerate(words):
         text = word[2:] if word.startswith("-C") and len(word) > 2 else word
         is_option = word.startswith("-C") and len(word) > 2 or at and words[at - 1] in ("-C", "--codegen")
-        if is_option and FORBIDDEN.match(text.replace("_", "-")) or word.startswith(("-Z", "--emit", "--codegen=")):
-            raise Stop(USAGE, f"cargo-blade: error: RUSTFLAGS has {printable(word)}: with it a labelled function "
-                       "may lose its label, or cargo-blade sets it by itself; leave it out")
+        if (
+            is_option
+            and FORBIDDEN.match(text.replace("_", "-"))
+            or word == "-O"
+            or word.startswith(("-Z", "--emit", "--codegen="))
+        ):
+            raise Stop(
+                USAGE,
+                (
+                    f"cargo-blade: error: RUSTFLAGS has {printable(word)}: with it a labelled function "
+                    "may lose its label, or cargo-blade sets it by itself; leave it out"
+                ),
+            )
     return words
 
 
@@ -165,9 +225,24 @@ def built(target: Target, words: Sequence[str], profile: str, runner: Runner) ->
     """Runs cargo; its messages."""
     kind = [] if target.is_cdylib or target.kind in ("test", "bin") else ["--crate-type", "cdylib"]
     named = [ENDING[target.kind]] + ([] if target.kind == "lib" else [target.name])
-    asked_for = [cargo(), "rustc", "--manifest-path", target.manifest, "--package", target.package, *named,
-                 "--profile", profile, "--target", TARGET, "--target-dir", f"{target.folder}/build",
-                 "--message-format=json-render-diagnostics", *kind, *words]
+    asked_for = [
+        cargo(),
+        "rustc",
+        "--manifest-path",
+        target.manifest,
+        "--package",
+        target.package,
+        *named,
+        "--profile",
+        profile,
+        "--target",
+        TARGET,
+        "--target-dir",
+        f"{target.folder}/build",
+        "--message-format=json-render-diagnostics",
+        *kind,
+        *words,
+    ]
     flags = flags_of_user() + FLAGS
     setting = {**os.environ, "CARGO_INCREMENTAL": "0"}
     if tools().version >= INLINES:
@@ -176,8 +251,15 @@ def built(target: Target, words: Sequence[str], profile: str, runner: Runner) ->
     setting["CARGO_ENCODED_RUSTFLAGS"] = "\x1f".join(flags)
     runner.show_text(f"RUSTFLAGS={shlex.quote(' '.join(flags))} {shlex.join(asked_for)}")
     try:
-        done = subprocess.run(asked_for, stdout=subprocess.PIPE, stdin=subprocess.DEVNULL, env=setting, text=True,
-                              errors="replace", check=False)
+        done = subprocess.run(
+            asked_for,
+            stdout=subprocess.PIPE,
+            stdin=subprocess.DEVNULL,
+            env=setting,
+            text=True,
+            errors="replace",
+            check=False,
+        )
     except OSError:
         raise Stop(MISSING, f"cargo-blade: error: there is no {cargo()}") from None
     if done.returncode:
@@ -221,8 +303,13 @@ def unpacked(path: str) -> Linked:
     try:
         packed = tarfile.open(fileobj=io.BytesIO(data))
     except tarfile.TarError:
-        raise Stop(BUILD, f"cargo-blade: error: {path} isn't what cargo-blade's linker packs: does a file "
-                   "of cargo's configuration set the linker?") from None
+        raise Stop(
+            BUILD,
+            (
+                f"cargo-blade: error: {path} isn't what cargo-blade's linker packs: does a file "
+                "of cargo's configuration set the linker?"
+            ),
+        ) from None
     with packed:
         words = packed.extractfile("words").read().decode("utf-8", "surrogateescape").split("\0")
         for at, word in enumerate(words):
@@ -239,11 +326,12 @@ def read_word(made: Linked, words: Sequence[str], at: int, word: str, packed: ta
     elif word in ("-O0", "-O1", "-O3") and tools().version < INLINES:
         made.level = word
     elif word.startswith("-l"):
-        raise Stop(BUILD, f"cargo-blade: error: the crate links a native library ({word}), which has no labels")
+        raise Stop(
+            BUILD, f"cargo-blade: error: the crate links a native library ({word}), which has no labels"
+        )
     elif "/rustlib/" in word and word.endswith(".rlib"):
         made.library.append(word)
     elif f"inputs/{at}" in packed.getnames():
         whole = Input(word, packed.extractfile(f"inputs/{at}").read())
         inside = list(members(whole)) if whole.data.startswith(PLAIN) else [whole]
         made.objects += [one for one in inside if one.is_bitcode or one.is_object]
-

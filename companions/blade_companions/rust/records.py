@@ -1,5 +1,5 @@
-"""What the macros of the crate blade-labels leave in LLVM's text of a crate: records, each with a pointer to a
-function. They are read and taken out. Licence: public domain (CC0)."""
+"""What the macros of the crate blade-labels leave in LLVM's text of a crate: records, each with a pointer to
+a function. They are read and taken out. Licence: public domain (CC0)."""
 from __future__ import annotations
 
 import re
@@ -9,6 +9,7 @@ from ..c.declarations import INCLUDED
 from ..c.ir import MENTION, SYMBOL, inside, plain, split_at_commas, unescaped
 from ..c.opaque import Named
 from ..formats.reading import Bad
+from .demangling import demangled
 
 MARK = "blade-label "
 VERSION = "1"
@@ -80,8 +81,13 @@ def taken_out(lines: Sequence[str]) -> Tuple[List[str], List[Record]]:
         else:
             kept.append(line)
     kept = [without(line, symbols) if line.startswith(USED) else line for line in kept]
-    rest = [line for line in kept if MARK + VERSION + "\\09" in line
-            or any(one in symbols for one in MENTION.findall(line)) and not line.startswith("!")]
+    rest = [
+        line
+        for line in kept
+        if MARK + VERSION + "\\09" in line
+        or any(one in symbols for one in MENTION.findall(line))
+        and not line.startswith("!")
+    ]
     if rest:
         raise Bad(f"a label that isn't read here: {rest[0][:200]}")
     return kept, found
@@ -95,8 +101,10 @@ def without(line: str, symbols: Sequence[str]) -> str:
     if not left:
         return ""
     kind = line[line.index(" x ") + 3 : line.index("] [")]
-    return f"{line.partition(' = ')[0]} = appending global [{len(left)} x {kind}] [{', '.join(left)}]" + line[
-        end + 1 :]
+    return (
+        f"{line.partition(' = ')[0]} = appending global [{len(left)} x {kind}] [{', '.join(left)}]"
+        + line[end + 1 :]
+    )
 
 
 def panics(lines: Sequence[str], defined: Sequence[str]) -> List[str]:
@@ -106,17 +114,19 @@ def panics(lines: Sequence[str], defined: Sequence[str]) -> List[str]:
     groups = {line.split()[1]: line for line in lines if line.startswith("attributes #")}
     for line in lines:
         told = DECLARED.match(line)
-        if told and plain(told[2]).startswith(("_ZN", "_R")) and plain(told[2]) not in known:
+        symbol = plain(told[2]) if told else ""
+        if told and demangled(symbol) != symbol and symbol not in known:
             words = line[told.end() + len(inside(line, told.end() - 1)) :]
-            if "noreturn" in words or any("noreturn" in groups.get(one, "").split()
-                                          for one in re.findall(r"#\d+", words)):
+            if "noreturn" in words or any(
+                "noreturn" in groups.get(one, "").split() for one in re.findall(r"#\d+", words)
+            ):
                 found.append(told[2])
     return found
 
 
 def with_traps(lines: Sequence[str], defined: Sequence[str]) -> List[str]:
-    """The lines with a function that traps in place of each one by which Rust panics. It gets no arguments: they
-    are of use for a message alone, which nobody would see."""
+    """The lines with a function that traps in place of each one by which Rust panics. It gets no arguments:
+    they are of use for a message alone, which nobody would see."""
     wanted, made = set(panics(lines, defined)), []
     for line in lines:
         found = CALL.match(line) if " call " in line else None
@@ -125,8 +135,12 @@ def with_traps(lines: Sequence[str], defined: Sequence[str]) -> List[str]:
             line = f"{found[1]}{trapping(found[2])}({rest}"
         made.append(line)
     for one in sorted(wanted):
-        made += [f"define linkonce_odr hidden void {trapping(one)}() noinline noreturn nounwind cold {{",
-                 "  call void @llvm.trap()", "  unreachable", "}"]
+        made += [
+            f"define linkonce_odr hidden void {trapping(one)}() noinline noreturn nounwind cold {{",
+            "  call void @llvm.trap()",
+            "  unreachable",
+            "}",
+        ]
     if wanted and not any(line.startswith("declare void @llvm.trap()") for line in lines):
         made.append("declare void @llvm.trap()")
     return made

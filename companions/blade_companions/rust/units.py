@@ -73,8 +73,10 @@ def why_none(function: Defined, record: Record) -> str:
     """Why a function can't have a label."""
     name = told(function.symbol)
     if ODD.search(name) or ODD.search(function.name):
-        return (f"{record.path} leads to {name}, which rustc makes for calls by a pointer (#[track_caller], a "
-                "closure or a method of a trait object): label a plain function")
+        return (
+            f"{record.path} leads to {name}, which rustc makes for calls by a pointer (#[track_caller], a "
+            "closure or a method of a trait object): label a plain function"
+        )
     if function.name != record.name:
         return f"{record.path} leads to {name}: label {function.name} by its own name"
     if function.params and not function.numbered and record.kind == "secret-param":
@@ -88,21 +90,28 @@ def named_by_stores(function: Defined, lines: Sequence[str]) -> List[Param]:
     names = set(function.numbered.values())
     stores = [found.groups() for found in map(STORE.match, lines) if found]
     told = {given: place for given, place in stores if place in names}
-    return [one._replace(name=told.get(one.name, one.name)) if one.name.isdigit() else one
-            for one in function.params]
+    return [
+        one._replace(name=told.get(one.name, one.name)) if one.name.isdigit() else one
+        for one in function.params
+    ]
 
 
 def checked(function: Defined, number: str, name: str) -> str:
-    """The number of a parameter: where Rust has as many parameters as the module, the name has to stand at the
-    same place in both."""
+    """The number of a parameter: where Rust has as many parameters as the module, the name has to stand at
+    the same place in both."""
     own = [one for one in function.params if " sret(" not in one.text]
     if len(own) != len(function.numbered) or any(one.size != 1 for one in own):
         return number
     at = next(place for place, one in sorted(function.numbered.items()) if one == name)
     hidden = int(number) - next(place for place, one in enumerate(own) if one.name == name)
-    return number if own[at].name == name else (
-        f"!parameter {name} of {function.name} is number {at} in the source and {int(number) - hidden} in the "
-        "module: give it another name")
+    return (
+        number
+        if own[at].name == name
+        else (
+            f"!parameter {name} of {function.name} is number {at} in the source and {int(number) - hidden} in"
+            " the module: give it another name"
+        )
+    )
 
 
 def defined_in(crates: Sequence[Crate]) -> List[str]:
@@ -114,9 +123,15 @@ def kept(crate: Crate, records: Sequence[Record], defined: Sequence[str]) -> str
     unit = RustUnit(crate, records)
     opaque = Opaque(unit, False, False)
     opaque.lines = with_traps(opaque.lines, defined)
-    section = ['module asm ".section .custom_section.blade.secrets,\\22\\22,@"',
-               *(f'module asm ".ascii \\22{line}\\22"' for line in map(spelled_line, unit.lines)),
-               'module asm ".text"'] if unit.lines else []
+    section = (
+        [
+            'module asm ".section .custom_section.blade.secrets,\\22\\22,@"',
+            *(f'module asm ".ascii \\22{line}\\22"' for line in map(spelled_line, unit.lines)),
+            'module asm ".text"',
+        ]
+        if unit.lines
+        else []
+    )
     return "\n".join([opaque.written(), *section]) + "\n"
 
 
@@ -129,9 +144,9 @@ def lost(crates: Sequence[Crate], records: Sequence[Record]) -> Optional[str]:
     known = set(defined_in(crates))
     for one in records:
         if one.symbol and one.symbol not in known:
-            return (f"{one.where}: error: {told(one.symbol)} isn't defined in a crate that is compiled here (the "
-                    "standard library, or code of another language): label a function that calls it "
-                    "[blade-label]")
+            return (
+                f"{one.where}: error: {told(one.symbol)} isn't defined in a crate that is compiled here (the "
+                "standard library, or code of another language): label a function that calls it "
+                "[blade-label]"
+            )
     return None
-
-

@@ -1,5 +1,5 @@
-"""How messages speak of Rust: names as Rust spells them, short paths of crates and of rustc's own library, and
-remedies that Rust has. Licence: public domain (CC0)."""
+"""How messages speak of Rust: names as Rust spells them, short paths of crates and of rustc's own library,
+and remedies that Rust has. Licence: public domain (CC0)."""
 from __future__ import annotations
 
 import re
@@ -12,48 +12,88 @@ MEMORY = "secret_memory!()"
 # What blade-cc and blade-explain say of C, and what holds of Rust in its place.
 PHRASES: Tuple[Tuple[str, str], ...] = (
     ("blade-cc: ", "cargo-blade: "),
-    ("BLADE_SECRET_PARAM or BLADE_SECRET_MEMORY of blade.h, or words; --unlabelled where that is meant",
-     "secret_param!(f, x) or secret_memory!() of the crate blade-labels; --unlabelled if that is meant"),
-    ("give its members as parameters, or declare the memory by BLADE_SECRET_MEMORY",
-     f"give its fields as parameters, or declare the memory by {MEMORY}"),
-    (" is a struct by value or nothing at all in the module", " is a slice, a struct or nothing at all in the "
-     "module"),
-    (" is a struct by value, of which the module gets the address or a part", " is a struct, of which the module "
-     "gets the address or a part"),
+    (
+        "BLADE_SECRET_PARAM or BLADE_SECRET_MEMORY of blade.h, or words; --unlabelled where that is meant",
+        "secret_param!(f, x) or secret_memory!() of the crate blade-labels; --unlabelled if that is meant",
+    ),
+    (
+        "give its members as parameters, or declare the memory by BLADE_SECRET_MEMORY",
+        f"give its fields as parameters, or declare the memory by {MEMORY}",
+    ),
+    (
+        " is a struct by value or nothing at all in the module",
+        " is a slice, a struct or nothing at all in the module",
+    ),
+    (
+        " is a struct by value, of which the module gets the address or a part",
+        " is a struct, of which the module gets the address or a part",
+    ),
     ("not what stands there. For that: BLADE_SECRET_MEMORY", f"not what stands there. For that: {MEMORY}"),
     ("BLADE_SECRET_MEMORY", MEMORY),
     (", mark the value by BLADE_SECRET(x), or say", ", or say"),
-    ("and yet it is to be inlined (always_inline, or flatten at a caller): drop that",
-     "and yet it is to be inlined (#[inline(always)]): drop that"),
-    ("so the linker or clang dropped it; export it, or drop the line",
-     "so the compiler dropped it; export it by #[no_mangle] and pub extern \"C\", or drop the label"),
+    (
+        "and yet it is to be inlined (always_inline, or flatten at a caller): drop that",
+        "and yet it is to be inlined (#[inline(always)]): drop that",
+    ),
+    (
+        "so the linker or clang dropped it; export it, or drop the line",
+        'so the compiler dropped it; export it by #[no_mangle] and pub extern "C", or drop the label',
+    ),
     (" (nothing uses it, so the linker or clang dropped it; export it, or drop the line)", ""),
-    ("give it as a parameter, or keep it in the ledger: PUB(x), SETPUB(x, v)",
-     "give it as a parameter, or take an array of a fixed size in place of a slice; --split keeps public "
-     "numbers in a public memory"),
-    ("call the function directly, or keep the pointer in the ledger",
-     "call the function directly, in place of dyn and of function pointers"),
-    ("call functions by their names, or keep the pointer in the ledger",
-     "call functions by their names, in place of dyn and of function pointers"),
+    (
+        "give it as a parameter, or keep it in the ledger: PUB(x), SETPUB(x, v)",
+        (
+            "give it as a parameter, or take an array of a fixed size in place of a slice; --split keeps"
+            " public numbers in a public memory"
+        ),
+    ),
+    (
+        "call the function directly, or keep the pointer in the ledger",
+        "call the function directly, in place of dyn and of function pointers",
+    ),
+    (
+        "call functions by their names, or keep the pointer in the ledger",
+        "call functions by their names, in place of dyn and of function pointers",
+    ),
     ("locals that clang shares between C variables", "locals that the compiler shares between variables"),
     ("wasm-opt -g --untee --ssa before labelling", "split the function in two"),
-    ("one run decides (--start FILE); if it is public, give it as a parameter, or keep it in the ledger",
-     "one run decides (--start FILE); if it is public, give it as a parameter, take an array of a fixed size in "
-     "place of a slice, or use --split"),
+    (
+        "one run decides (--start FILE); if it is public, give it as a parameter, or keep it in the ledger",
+        (
+            "one run decides (--start FILE); if it is public, give it as a parameter, take an array of a"
+            " fixed size in place of a slice, or use --split"
+        ),
+    ),
     ("give it as a parameter, or keep it in the ledger", "give it as a parameter, or use --split"),
-    ("If what is loaded is public, make it a parameter or keep it in the ledger.",
-     "If what is loaded is public, make it a parameter, or use --split."),
+    (
+        "If what is loaded is public, make it a parameter or keep it in the ledger.",
+        "If what is loaded is public, make it a parameter, or use --split.",
+    ),
     ("a variable that clang keeps in memory", "a variable that the compiler keeps in memory"),
     ("compile with -O1 or more", "take an opt-level of 1 or more in the profile"),
-    ("compute without a branch: both ways, and a mask that keeps one",
-     "compute both ways and choose by subtle::ConditionallySelectable, or by a mask (black_box doesn't help)"),
-    ("read all entries, and keep one by a mask",
-     "read all entries, and keep one by subtle::ConditionallySelectable"),
+    (
+        "compute without a branch: both ways, and a mask that keeps one",
+        (
+            "compute both ways and choose by subtle::ConditionallySelectable, or by a mask (black_box doesn't"
+            " help)"
+        ),
+    ),
+    (
+        "read all entries, and keep one by a mask",
+        "read all entries, and keep one by subtle::ConditionallySelectable",
+    ),
     ("write all entries, by masks", "write all entries, each by conditional_assign of subtle"),
-    ("read all entries, or compute without a branch",
-     "read all entries, or choose by subtle::ConditionallySelectable"),
-    ("keep it in a memory that is declared secret; unroll loops over local arrays, inline what takes an address",
-     f"declare the memory secret by {MEMORY}"),
+    (
+        "read all entries, or compute without a branch",
+        "read all entries, or choose by subtle::ConditionallySelectable",
+    ),
+    (
+        (
+            "keep it in a memory that is declared secret; unroll loops over local arrays, inline what takes"
+            " an address"
+        ),
+        f"declare the memory secret by {MEMORY}",
+    ),
     ("keep it in a memory that is declared secret", f"declare the memory secret by {MEMORY}"),
     ("no lines of C", "no lines of Rust"),
     ("C's secret memory", "the secret memory"),
@@ -63,9 +103,17 @@ PHRASES: Tuple[Tuple[str, str], ...] = (
 )
 # Prefixes of paths, and how they are told.
 PATHS: Tuple[Tuple["re.Pattern[str]", str], ...] = (
-    (re.compile(r"(?<![\w./-])/?(?:[\w.+-]+/)*registry/(?:src/[^/\s]+/)?(?=[\w-]+-\d[\w.+-]*/)"), "registry/"),
-    (re.compile(r"(?<![\w./-])/?(?:[\w.+~-]+/)*library/(?=(?:alloc|core|std|panic_abort|portable-simd|"
-                r"stdarch|backtrace)/)"), "rustc/library/"),
+    (
+        re.compile(r"(?<![\w./-])/?(?:[\w.+-]+/)*registry/(?:src/[^/\s]+/)?(?=[\w-]+-\d[\w.+-]*/)"),
+        "registry/",
+    ),
+    (
+        re.compile(
+            r"(?<![\w./-])/?(?:[\w.+~-]+/)*library/(?=(?:alloc|core|std|panic_abort|portable-simd|"
+            r"stdarch|backtrace)/)"
+        ),
+        "rustc/library/",
+    ),
     (re.compile(r"(?<![\w./-])/?(?:[\w.+~-]+/)*vendor/(?=compiler_builtins)"), "rustc/vendor/"),
 )
 INSIDE = re.compile(r"\[in (.*)\]$")  # the function of a step

@@ -284,7 +284,8 @@ def told_of(found: Findings, lines: Lines, causes: Sequence[Cause], protects: Se
         problems[key] = Problem(
             rule, line, way.end.position, name, lines.instruction(way.end.position),
             steps, 1, advice(why.get(way.origin), way, rule),
-            loaded_at(way, lines), spot.linked.module.path if spot else "", spot.row.place if spot else 0, panic)
+            loaded_at(way, lines), spot.linked.module.path if spot else "",
+            spot.row.place if spot else 0, panic)
     ordered = sorted(problems.values(),
                      key=lambda one: (one.line.path, one.line.number, one.line.column, one.position))
     sources = []
@@ -323,8 +324,10 @@ def of_text(one: Problem, image: str) -> str:
 
 
 def problem_text(one: Problem) -> str:
-    return one.rule.text + (f": {one.panic}" if one.panic else "") + (f" ({one.instruction})" if one.instruction
-                            else "") + (f", at {one.ends} places of this line" if one.ends > 1 else "")
+    panic = f": {one.panic}" if one.panic else ""
+    instruction = f" ({one.instruction})" if one.instruction else ""
+    places = f", at {one.ends} places of this line" if one.ends > 1 else ""
+    return one.rule.text + panic + instruction + places
 
 
 def as_text(told: Told, image: str, limit: int, lines: Lines, everything: bool = True) -> Iterator[str]:

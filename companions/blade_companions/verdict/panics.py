@@ -15,7 +15,10 @@ CHECKS: Tuple[Tuple[str, str], ...] = (
     ("slice_end_index", "it is the check of a slice's ends"),
     ("slice_index", "it is the check of a slice's ends"),
     ("len_mismatch_fail", "it compares the lengths of two slices"),
-    ("unwrap_failed", "it is an unwrap"), ("expect_failed", "it is an expect"), ("panic", "it decides on a panic"))
+    ("unwrap_failed", "it is an unwrap"),
+    ("expect_failed", "it is an expect"),
+    ("panic", "it decides on a panic"),
+)
 FAR = 12  # commands behind a branch that are looked at
 FUNCTIONS = ("core::", "alloc::", "std::")
 
@@ -25,7 +28,9 @@ def check_of(symbol: str) -> str:
     name = demangled(symbol)
     if name == symbol or not symbol.endswith(".0") or not name.startswith(FUNCTIONS):
         return ""
-    return next((f"{text} ({name})" for part, text in CHECKS if part in name), f"it decides on a panic ({name})")
+    return next(
+        (f"{text} ({name})" for part, text in CHECKS if part in name), f"it decides on a panic ({name})"
+    )
 
 
 def panic_text(image: Image, lines: Lines, position: int) -> str:
