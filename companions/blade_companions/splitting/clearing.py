@@ -13,7 +13,8 @@ if TYPE_CHECKING:
     from .functions import FunctionWriter
 
 # A range costs some nine commands for eight bytes that it clears, and 15 for eight that it fills. A call for
-# one store costs 10, and 16. These are the most bytes of a turn, and of a store, for which a range is cheaper.
+# one store costs 10, and 16. These are the most bytes of a turn, and of a store, for which a range costs
+# less.
 CLEARED_IN_LOOP, FILLED_IN_LOOP = 8, 8
 SETTING = frozenset([op.LOCAL_SET, op.LOCAL_TEE])
 # Steps that go another way, or to other code: masks are cleared before.
