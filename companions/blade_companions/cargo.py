@@ -56,17 +56,24 @@ from typing import Callable, Dict, List, Optional, Sequence
 from . import printing
 from .c import splitting
 from .c.arguments import BUILD, USAGE, Asked, Stop, asked_by
+from .c.lines import Lines
 from .c.sources import Sources
+from .c.splitting import Remaining
 from .cc import Driver, mark, write_errors
 from .ending import ended, is_answered
+from .explain import judged
 from .formats.module import Module
 from .printing import say
 from .rust import cargo, words
 from .rust.building import RustBuilder
 from .rust.demangling import demangled
 from .statuses import YES
+from .verdict.causes import causes_of
+from .verdict.diagnostics import Told
+from .verdict.page import page_of
+from .writing import write_file
 
-KINDS = {"--lib": "lib", "--example": "example", "--test": "test"}
+CAUSES = 20  # so many causes get a likely reason on a page
 OF_CARGO = {
     "--features": 1,
     "-F": 1,
@@ -169,6 +176,16 @@ class CargoDriver(Driver):
 
     def explaining(self, made: str) -> List[str]:
         return super().explaining(made) + ["--page", self.given.page] * bool(self.given.page)
+
+    def tell(
+        self, told: Told, lines: Lines, modules: List[str], made: str, remaining: Optional[Remaining] = None
+    ) -> None:
+        super().tell(told, lines, modules, made, remaining)
+        if self.given.page:
+            found, causes = told.found, causes_of(told.found, lines)
+            judged(found, lines, causes[:CAUSES], 1)
+            text = page_of(f"{made}.img", found, causes, self.protects(found.image, made), lines, None)
+            write_file(self.given.page, words.in_rust(text).encode())
 
 
 def symbols_of(module: Module, name: str) -> List[str]:

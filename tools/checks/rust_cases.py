@@ -653,7 +653,7 @@ PLAIN, SPLIT = ("constant-time yes: none of ",), ("constant-time yes: none of ",
 ROUTINES: List[Routine] = [
     Routine("lookup", LEAK, ("examples/lookup.rs:12:15: error: a secret is part of the address of a load",)),
     Routine("early_exit", LEAK, ("examples/early_exit.rs:11:12: error: a branch depends on a secret",)),
-    Routine("select", YES, PLAIN),
+    Routine("choose", YES, PLAIN),
     Routine("equal", YES, PLAIN, "same", -1, "i32 1"),
     # RFC 7748, 5.2
     Routine(

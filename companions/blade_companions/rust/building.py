@@ -42,9 +42,8 @@ class RustBuilder(Builder):
         self.crates: List[str] = []  # objects of crates
 
     def objects(self) -> List[str]:
-        messages = cargo.built(self.target, self.words, self.profile, self.runner)
+        messages, self.linked = cargo.collected(self.target, self.words, self.profile, self.runner)
         self.packages = cargo.packages(messages)
-        self.linked = cargo.unpacked(cargo.artifact(messages, self.target))
         if not self.linked.exports:
             raise Stop(
                 BUILD,

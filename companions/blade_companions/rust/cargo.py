@@ -2,6 +2,7 @@
 that packs what rustc would link. Licence: public domain (CC0)."""
 from __future__ import annotations
 
+import fcntl
 import functools
 import io
 import json
@@ -22,27 +23,10 @@ from ..printing import printable
 TARGET = "wasm32-unknown-unknown"
 COLLECT = os.path.join(os.path.dirname(os.path.realpath(__file__)), "collect")
 # One unit a crate, as it comes from rustc: what is inlined or dropped is decided behind the labels.
-FLAGS = [
-    "--cfg",
-    "blade",
-    "-C",
-    "linker-plugin-lto",
-    "-C",
-    "no-prepopulate-passes",
-    "-C",
-    "codegen-units=1",
-    "-C",
-    "lto=off",
-    "-C",
-    "debuginfo=2",
-    "-C",
-    "strip=none",
-    "-C",
-    "target-cpu=mvp",
-    "-C",
-    f"linker={COLLECT}",
-    "--emit=llvm-bc",
-]
+FLAGS = (
+    "--cfg blade -C linker-plugin-lto -C no-prepopulate-passes -C codegen-units=1 -C lto=off -C debuginfo=2"
+    " -C strip=none -C target-cpu=mvp --emit=llvm-bc"
+).split() + ["-C", f"linker={COLLECT}"]
 OF_LINKER = ("__heap_base", "__data_end")  # what rustc exports besides: variables of the linker
 # From this version on rustc itself inlines small functions, in front of LLVM, unless it optimises nothing.
 INLINES = (1, 64)
@@ -51,6 +35,7 @@ FORBIDDEN = re.compile(
     r"target-feature|no-prepopulate-passes|codegen-units|linker-plugin-lto|save-temps|"
     r"instrument-coverage|profile-use|profile-generate|relocation-model|strip)(?:=.*)?$"
 )
+FOLDERS = {"dev": "debug", "test": "debug", "bench": "release"}  # of profiles that share one
 ENDING = {"lib": "--lib", "example": "--example", "test": "--test", "bin": "--bin"}
 
 
@@ -267,14 +252,35 @@ def built(target: Target, words: Sequence[str], profile: str, runner: Runner) ->
     return [json.loads(line) for line in done.stdout.splitlines() if line.startswith("{")]
 
 
+def places(target: Target, profile: str) -> List[str]:
+    """Where cargo has put modules of the target's name, of whichever package."""
+    top = f"{target.folder}/build/{TARGET}/{FOLDERS.get(profile, profile)}"
+    names = "|".join(re.escape(one) for one in (target.name, target.name.replace("-", "_")))
+    is_such = re.compile(rf"(?:{names})(?:-[0-9a-f]{{16}})?\.wasm")
+    folders = [folder for folder in (top, f"{top}/deps", f"{top}/examples") if os.path.isdir(folder)]
+    return [f"{folder}/{one}" for folder in folders for one in os.listdir(folder) if is_such.fullmatch(one)]
+
+
+def collected(target: Target, words: Sequence[str], profile: str, runner: Runner) -> Tuple[List[dict], Linked]:
+    """Cargo's messages, and what the target would be linked of. The target is always made anew, and nobody
+    else builds meanwhile: else this could be what was made of another package with a target of this name."""
+    os.makedirs(f"{target.folder}/build", exist_ok=True)
+    with open(f"{target.folder}/build/.lock", "w", encoding="ascii") as lock:
+        fcntl.flock(lock, fcntl.LOCK_EX)
+        for path in places(target, profile):
+            os.remove(path)
+        messages = built(target, words, profile, runner)
+        return messages, unpacked(artifact(messages, target))
+
+
 def artifact(messages: Sequence[dict], target: Target) -> str:
     """What our linker has packed."""
     for one in reversed(messages):
         if one.get("reason") == "compiler-artifact" and one["target"]["name"] == target.name:
             for path in one["filenames"]:
-                if path.endswith(".wasm"):
+                if path.endswith(".wasm") and not one.get("fresh"):
                     return path
-    raise Stop(BUILD, f"cargo-blade: error: cargo made no module of {target.name}: is its crate-type cdylib?")
+    raise Stop(BUILD, f"cargo-blade: error: cargo made no new module of {target.name}: is it a cdylib?")
 
 
 def packages(messages: Sequence[dict]) -> List[Tuple[str, str]]:

@@ -120,11 +120,16 @@ INSIDE = re.compile(r"\[in (.*)\]$")  # the function of a step
 LIBRARY = re.compile(r"(?:.*/)?library/(alloc|core|std)/|.*/(compiler_builtins)(?:-[\d.]+)?/src/")
 
 
-def spoken(text: str) -> str:
-    """A text of blade-cc as it is told of Rust."""
+def in_rust(text: str) -> str:
+    """A text of blade-cc in Rust's words."""
     for of_c, of_rust in PHRASES:
         text = text.replace(of_c, of_rust)
-    return names_told(text)
+    return text
+
+
+def spoken(text: str) -> str:
+    """A text of blade-cc as it is told of Rust, with names in place of symbols."""
+    return names_told(in_rust(text))
 
 
 def told(text: str) -> str:
