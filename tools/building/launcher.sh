@@ -192,8 +192,8 @@ refuse_changed() {
             0) ;;
             5)
                 refused=1
-                echo "blade: $file: its code was changed after it was labelled, so its labels may name other" \
-                    "functions; nothing is done: blade-label --replace labels it again" >&2
+                echo "blade: $file: its code was changed after it was labelled, so its labels may name" \
+                    "other functions; nothing is done: blade-label --replace labels it again" >&2
                 ;;
             *)
                 echo "blade: warning: $file: nothing says whether its labels still fit its code, since" \

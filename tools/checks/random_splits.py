@@ -51,6 +51,10 @@ def labelled(data: bytes) -> Module:
     return module_of(with_labels(bare, sorted({*entries_of(bare), SECRET})), "m.wasm")
 
 
+def some_bytes(chance: random.Random, count: int) -> bytes:
+    return chance.getrandbits(8 * count).to_bytes(count, "little")
+
+
 def calls_of(chance: random.Random, module: Module, export: str, arguments: Callable[[int], List[int]],
              contents: Callable[[], Tuple[int, bytes]]) -> Program:
     """Three calls. The same bytes are public in each, none, some or all."""
@@ -102,7 +106,7 @@ def small_module(chance: random.Random, folder: str) -> Program:
         bits = [32 if kind == made_modules.I32 else 64 for kind in maker.kinds[number][0]]
         return [chance.choice((*EDGES, chance.getrandbits(64))) & ((1 << one) - 1) for one in bits]
 
-    return calls_of(chance, module, f"f{number}", arguments, lambda: (0, chance.randbytes(ROOM)))
+    return calls_of(chance, module, f"f{number}", arguments, lambda: (0, some_bytes(chance, ROOM)))
 
 
 HEAD = """typedef unsigned char u8;
@@ -189,7 +193,7 @@ def c_program(chance: random.Random, folder: str) -> Program:
     with open(made_of, "rb") as made_file:
         module = labelled(made_file.read())
     return calls_of(chance, module, "f", lambda _: [chance.randrange(32), DATA],
-                    lambda: (DATA, chance.randbytes(64)))
+                    lambda: (DATA, some_bytes(chance, 64)))
 
 
 KINDS: Dict[str, Callable[[random.Random, str], Program]] = {
