@@ -23,7 +23,6 @@ from blade_companions.split import Named
 from blade_companions.splitting import profile
 from blade_companions.splitting.making import split
 from blade_companions.splitting.starts import split_start
-from blade_companions.witnesses.pairs import drawn
 
 sys.path.append(f"{TOP}/oracles")
 import made  # noqa: E402
@@ -50,6 +49,10 @@ def labelled(data: bytes) -> Module:
     """The module of these bytes, with its memory secret beside what else it declares."""
     bare = module_of(data, "m.wasm")
     return module_of(with_labels(bare, sorted({*entries_of(bare), SECRET})), "m.wasm")
+
+
+def some_bytes(chance: random.Random, count: int) -> bytes:
+    return chance.getrandbits(8 * count).to_bytes(count, "little")
 
 
 def calls_of(chance: random.Random, module: Module, export: str, arguments: Callable[[int], List[int]],
@@ -103,7 +106,7 @@ def small_module(chance: random.Random, folder: str) -> Program:
         bits = [32 if kind == made_modules.I32 else 64 for kind in maker.kinds[number][0]]
         return [chance.choice((*EDGES, chance.getrandbits(64))) & ((1 << one) - 1) for one in bits]
 
-    return calls_of(chance, module, f"f{number}", arguments, lambda: (0, drawn(chance, ROOM)))
+    return calls_of(chance, module, f"f{number}", arguments, lambda: (0, some_bytes(chance, ROOM)))
 
 
 HEAD = """typedef unsigned char u8;
@@ -190,7 +193,7 @@ def c_program(chance: random.Random, folder: str) -> Program:
     with open(made_of, "rb") as made_file:
         module = labelled(made_file.read())
     return calls_of(chance, module, "f", lambda _: [chance.randrange(32), DATA],
-                    lambda: (DATA, drawn(chance, 64)))
+                    lambda: (DATA, some_bytes(chance, 64)))
 
 
 KINDS: Dict[str, Callable[[random.Random, str], Program]] = {

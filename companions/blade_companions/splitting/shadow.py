@@ -183,8 +183,8 @@ class Shadow:
     def fill_range(self, one: Accessor) -> str:
         """The same known byte from one address to another."""
         byte = "local.get 2; i32.const 255; i32.and; i64.extend_i32_u;"
-        spread = f"{byte} i64.const 0x101010101010101; i64.mul; local.set 3;"
-        return spread + self.ranged(("local.get 3;", 0), ("i64.const -1;", self.base))
+        eight = f"{byte} i64.const 0x101010101010101; i64.mul; local.set 3;"
+        return eight + self.ranged(("local.get 3;", 0), ("i64.const -1;", self.base))
 
     def ranged(self, *rows: Tuple[str, int]) -> str:
         """A loop of 32 bytes a turn, and then what is left. Each row has a value, and where its bytes stand,
