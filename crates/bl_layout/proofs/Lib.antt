@@ -1,0 +1,4 @@
+pub mod Commands
+pub mod LaidRuns
+pub mod Placings
+pub mod Tables

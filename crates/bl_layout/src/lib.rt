@@ -3,6 +3,7 @@
 #![tactic(auto)]
 
 mod block_writer;
+pub mod laws;
 mod layout_writer;
 mod slots;
 
