@@ -1,7 +1,9 @@
 -- Variables that are in the frame and the context have locations that are apart, in each frame with room for them.
-use Rattle.std.proofs.Common.{◌≡◌, ◌≢◌, ℕ, ◌+◌, ◌-◌, ◌*◌, ◌^◌, ◌<◌, ◌≤◌, ◌⊎◌, inl, inr, Bool, true, false, ◌&&◌, ◌||◌, cond, leb, ltb, IsTrue, refl, sym, ap, ◌∙◌, arith}
+use Rattle.std.proofs.Common.{◌≡◌, ◌≢◌, ℕ, suc, ◌+◌, ◌-◌, ◌*◌, ◌^◌, ◌<◌, ◌≤◌, ◌⊎◌, inl, inr, Bool, true, false, ◌&&◌, ◌||◌, cond, leb, ltb, IsTrue, List, [], ◌∷◌, length, refl, sym, ap, ◌∙◌, arith}
 use Rattle.std.proofs.lemmas.Bool.{cases_lt, leb-true, ltb-true, ltb-false, lt-ltb, le-ltb}
-use Rattle.bl_program.specs.Layout.{statics, running, Holds}
+use Rattle.bl_program.specs.Layout.{holding, statics, running, Holds}
+use Rattle.bl_program.specs.Rules.{IsWellFormed}
+use Rattle.bl_program.specs.declared.definitions.FunctionDef.{FunctionDef}
 use Rattle.bl_program.specs.declared.definitions.ProgramParts.{ProgramParts as Program}
 use Rattle.bl_program.proofs.Layouts.{running_is}
 use Rattle.bl_select.specs.Frames.{Frame, IsPlacing, IsLocation, Apart, Passes}
@@ -80,6 +82,21 @@ module _ (program : Program) (frame : Frame) (room : HasRoom program frame) wher
 
   pub placings : (position : ℕ) → IsPlacing frame (placing_at program position)
   placings position = placing_fits (slots_at program position) frame (fits_by (running program position) (ltb position 7))
+
+-- ---- the variables at a position
+
+-- there are few functions
+holding_within : (f : FunctionDef → ℕ) (xs : List FunctionDef) (x : ℕ) → holding f xs x ≤ length xs
+holding_within f [] x = omega arith
+holding_within f (y ∷ xs) x = by_test (ltb x (f y)) (holding_within f xs (x - f y))
+  where
+    by_test : (t : Bool) → holding f xs (x - f y) ≤ length xs → cond t 0 (suc (holding f xs (x - f y))) ≤ suc (length xs)
+    by_test true h = omega arith
+    by_test false h = omega arith
+
+pub running_small : (program : Program) (position : ℕ) → IsWellFormed program → running program position < 2 ^ 31
+running_small program position rules =
+    omega (arith, holding_within (λ (f : FunctionDef). f.length) program.functions (position - 7), rules.rule2.functions)
 
 module _ (program : Program) where
   pub behind_traps : (position : ℕ) → 7 ≤ position → slots_at program position ≡ slots_of program (running program position)

@@ -1,7 +1,7 @@
 //! The locations of the variables of a function.
 ghost use Rattle.std.specs.Prelude.{◌≡◌, ◌+◌, ◌^◌, ◌≤◌, ◌<◌, ◌↔◌, IsTrue};
 ghost use Rattle.bl_select.specs.Frames.{IsSource, source_of};
-ghost use Rattle.bl_layout.specs.Slots.{AreFew, is_alive_in, location_in, placing_in, slots_at};
+ghost use Rattle.bl_layout.specs.Slots.{AreFew, is_alive_in, location_in, placing_in, slots_at, slots_of, slots_outside};
 ghost use Rattle.bl_seq.specs.Layouts.{IsLayout};
 
 use bl_base::Var;
@@ -24,24 +24,41 @@ pub(crate) struct Slots {
 const MOST: usize = 0x1000_0000;
 
 impl Slots {
+    /// The variables that the commands of no function may name.
+    fn outside(layout: &Layout) -> Slots
+        requires { IsLayout layout.now }
+        ensures { result ≡ slots_outside layout.now.parts.now }
+    {
+        Slots {
+            statics: layout.statics,
+            first: 0,
+            next: 0,
+        }
+    }
+
+    /// The variables that the commands of a function may name.
+    fn of(layout: &Layout, function: u32) -> Slots
+        requires layout { IsLayout layout.now }
+        requires small { function < 2 ^ 31 }
+        ensures { result ≡ slots_of layout.now.parts.now function }
+    {
+        let next = function + 1;
+        Slots {
+            statics: layout.statics,
+            first: layout.frame(function).first,
+            next: layout.frame(next).first,
+        }
+    }
+
     /// The variables at a position.
     pub(crate) fn at(layout: &Layout, position: usize) -> Slots
         requires { IsLayout layout.now }
         ensures { result ≡ slots_at layout.now.parts.now position }
     {
-        let statics = layout.statics;
         if position < FIRST_ENTRY as usize {
-            return Slots {
-                statics,
-                first: 0,
-                next: 0,
-            };
-        }
-        let function = layout.running(position);
-        Slots {
-            statics,
-            first: layout.frame(function).first,
-            next: layout.frame(function + 1).first,
+            Slots::outside(layout)
+        } else {
+            Slots::of(layout, layout.running(position))
         }
     }
 
