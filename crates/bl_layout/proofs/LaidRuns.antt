@@ -77,7 +77,7 @@ module _ (program : Program) (facts : IsProgram program) (rules : IsWellFormed p
       cc
   chosen_by s next command step got (inr le) =
       let held = held_by program s.position facts le (slice_get_within program.commands s.position command got) in
-      let writable = laid.writable s.position command le got in
+      let writable = laid.writable.each s.position command le got in
       chosen_in s command got held.0 held.1 (subst (λ x. IsWritten x command) (slots_held program held.0 s.position held.1) writable.written)
 
   chosen : (s next : Plain) (o : Option Command) → plain_step program s ≡ goes next → command_at program s.position ≡ o → IsChosen program e code s

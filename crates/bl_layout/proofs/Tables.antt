@@ -1,11 +1,11 @@
 -- Where the instructions of each command stand, and how many there are.
-use Rattle.std.proofs.Common.{◌≡◌, ℕ, zero, suc, ◌+◌, ◌*◌, ◌<◌, ◌≤◌, ◌⊎◌, inl, inr, Bool, true, false, cond, ltb, List, [], ◌∷◌, ◌++◌, length, drop, get_or, Some, slice_get, slice_index, refl, sym, ap, ap₂, ◌∙◌, add-one, arith, length-append}
+use Rattle.std.proofs.Common.{◌≡◌, ℕ, zero, suc, ◌+◌, ◌*◌, ◌<◌, ◌≤◌, ◌⊎◌, inl, inr, Bool, true, false, cond, ltb, List, [], ◌∷◌, ◌++◌, length, drop, get_or, Some, slice_get, slice_index, refl, sym, ap, ap₂, ◌∙◌, subst, append_assoc, arith, length-append}
 use Rattle.std.proofs.Math.ListN.{get_or-append}
 use Rattle.std.proofs.Math.Seq.{drop-append-add}
-use Rattle.std.proofs.lemmas.Bool.{cases_lt}
+use Rattle.std.proofs.lemmas.Bool.{cases_lt, le-ltb, lt-ltb}
 use Rattle.std.proofs.lemmas.List.{get_or_push}
-use Rattle.std.proofs.lemmas.Option.{none-some, same_Some, slice_get-get_or}
-use Rattle.bl_program.specs.Layout.{base}
+use Rattle.std.proofs.lemmas.Option.{none-some, same_Some, slice_get-get_or, slice_get_within}
+use Rattle.bl_program.specs.Layout.{base, command_at}
 use Rattle.bl_program.specs.declared.command.Command.{Command}
 use Rattle.bl_program.specs.declared.command.Command.TheVariants.{Set, Load, Store, Test, Jump}
 use Rattle.bl_program.specs.declared.definitions.ProgramParts.{ProgramParts as Program}
@@ -14,9 +14,9 @@ use Rattle.bl_select.specs.Frames.{Placing, source_of}
 use Rattle.bl_select.specs.StraightRuns.{Stands}
 use Rattle.bl_select.specs.Templates.{jump_template}
 use Rattle.bl_select.proofs.Lengths.{set_length, load_length, store_length}
-use Rattle.bl_layout.specs.Blocks.{block_of, block_at, blocks_from, count_from}
+use Rattle.bl_layout.specs.Blocks.{AreWritable, IsWritable, block_of, block_at, blocks_from, count_from}
 use Rattle.bl_layout.specs.Layouts.{AreStarts}
-use Rattle.bl_layout.specs.Slots.{placing_at}
+use Rattle.bl_layout.specs.Slots.{placing_at, placing_in, slots_at}
 
 -- ---- lengths
 
@@ -62,6 +62,16 @@ module _ (program : Program) where
   pub starts_same : (one other : ℕ → ℕ) (starts : List ℕ) → AreStarts program one starts → AreStarts program other starts
   starts_same one other starts are = record { count = are.count; each = λ k h. are.each k h ∙ count_same one other 0 program.commands k }
 
+  -- the instructions of a trap, and those of another command
+  pub block_of_trap : (begins : ℕ → ℕ) (position : ℕ) (command : Command) → position < 7 → block_at program begins position command ≡ jump_template (begins position)
+  block_of_trap begins position command h =
+      ap (λ t. cond t (jump_template (begins position)) (block_of (placing_at program position) (base program) begins command)) (lt-ltb position 7 h)
+
+  pub block_behind : (begins : ℕ → ℕ) (position : ℕ) (command : Command) → 7 ≤ position
+      → block_at program begins position command ≡ block_of (placing_in (slots_at program position)) (base program) begins command
+  block_behind begins position command h =
+      ap (λ t. cond t (jump_template (begins position)) (block_of (placing_at program position) (base program) begins command)) (le-ltb position 7 h)
+
   -- ---- one command more
 
   module _ (begins : ℕ → ℕ) where
@@ -101,6 +111,11 @@ pub stands_at : (code : List Instruction) (k : ℕ) (block rest : List Instructi
 stands_at code k [] rest e = tt
 stands_at code k (i ∷ block) rest e = let got = first_got code k i (block ++ rest) e in (got.0, stands_at code (suc k) block rest got.1)
 
+from_there : (commands : List Command) (k : ℕ) (command : Command) → slice_get commands k ≡ Some command → drop k commands ≡ command ∷ drop (suc k) commands
+from_there [] k command e = absurd (none-some command e)
+from_there (first ∷ commands) zero command e = ap (λ x. x ∷ commands) (same_Some first command e)
+from_there (first ∷ commands) (suc k) command e = from_there commands k command e
+
 -- ---- tables
 
 pub table_more : (f : ℕ → ℕ) (i x : ℕ) (old new : List ℕ) → new ≡ old ++ x ∷ [] → length old ≡ i + 1 → x ≡ f (i + 1)
@@ -113,3 +128,40 @@ table_more f i x old new e count is so_far k h = by_order (cases_lt k (i + 1))
         let last : k ≡ length old = omega arith in
         let same : f k ≡ f (i + 1) = ap f (omega arith) in
         rw e (get_or_push old x 0 k (sym last)) ∙ is ∙ sym same
+
+-- the first instruction of the next command
+pub start_more : (program : Program) (targets : ℕ → ℕ) (k start count next : ℕ) (command : Command) → slice_get program.commands k ≡ Some command
+    → start ≡ count_from program targets 0 program.commands k → count ≡ length (block_at program targets k command) → next ≡ start + count
+    → next ≡ count_from program targets 0 program.commands (k + 1)
+start_more program targets k start count next command got so_far few is =
+    let none : 0 + k ≡ k = omega arith in
+    let one : k + 1 ≡ suc k = omega arith in
+    rw one (omega (arith, so_far, few, is, count_next program targets 0 program.commands k command got, ap (λ n. length (block_at program targets n command)) none))
+
+-- the code with the instructions of one command more
+pub code_more : (program : Program) (targets : ℕ → ℕ) (k : ℕ) (command : Command) (old new all : List Instruction) → slice_get program.commands k ≡ Some command
+    → new ≡ old ++ block_at program targets k command → old ++ blocks_from program targets k (drop k program.commands) ≡ all
+    → new ++ blocks_from program targets (k + 1) (drop (k + 1) program.commands) ≡ all
+code_more program targets k command old new all got e so_far =
+    let one : k + 1 ≡ suc k = omega arith in
+    rw (one, e) (append_assoc old (block_at program targets k command) (blocks_from program targets (suc k) (drop (suc k) program.commands))
+    ∙ ap (λ l. old ++ blocks_from program targets k l) (sym (from_there program.commands k command got)) ∙ so_far)
+
+-- ---- the check of each command
+
+pub one_writable : (program : Program) (n : ℕ) (d : Command) → n < length program.commands
+    → ((other : ℕ) (earlier : Command) → 7 ≤ other → other < n → command_at program other ≡ Some earlier → IsWritable program other earlier)
+    → (7 ≤ n → IsWritable program n (get_or program.commands n d))
+    → (other : ℕ) (earlier : Command) → 7 ≤ other → other < n + 1 → command_at program other ≡ Some earlier → IsWritable program other earlier
+one_writable program n d lt so_far good other earlier le below got = by_order (cases_lt other n)
+  where
+    by_order : (other < n) ⊎ (n ≤ other) → IsWritable program other earlier
+    by_order (inl low) = so_far other earlier le low got
+    by_order (inr high) =
+        let here : n ≡ other = omega arith in
+        let same : get_or program.commands n d ≡ earlier = same_Some (get_or program.commands n d) earlier (sym (slice_get-get_or program.commands n d lt) ∙ ap (slice_get program.commands) here ∙ got) in
+        subst (λ k. IsWritable program k earlier) here (subst (λ x. IsWritable program n x) same (good (omega arith)))
+
+pub all_writable : (program : Program) (n : ℕ) → length program.commands ≤ n
+    → ((other : ℕ) (earlier : Command) → 7 ≤ other → other < n → command_at program other ≡ Some earlier → IsWritable program other earlier) → AreWritable program
+all_writable program n le h = record { each = λ position command from got. h position command from (omega (arith, slice_get_within program.commands position command got)) got }

@@ -1,7 +1,7 @@
 -- The instructions of each command of a program, one after another. The five commands that have templates get these. The traps, at positions 0 to 6,
 -- have no template yet: each is one jump to itself, so that a run which comes to a trap stays there. Every other command is refused.
-use Rattle.std.specs.Prelude.{ℕ, zero, suc, ◌+◌, IsTrue, nat_lt, if◌then◌else◌, List, [], ◌∷◌, ◌++◌, length}
-use Rattle.bl_program.specs.Layout.{base}
+use Rattle.std.specs.Prelude.{◌≡◌, ◌≤◌, ℕ, zero, suc, ◌+◌, IsTrue, nat_lt, if◌then◌else◌, List, [], ◌∷◌, ◌++◌, length, Some}
+use Rattle.bl_program.specs.Layout.{base, command_at}
 use Rattle.bl_program.specs.declared.command.Command.{Command}
 use Rattle.bl_program.specs.declared.command.Command.TheVariants.{Set, Load, Store, Test, Jump}
 use Rattle.bl_program.specs.declared.definitions.ProgramParts.{ProgramParts as Program}
@@ -27,6 +27,10 @@ IsWritten slots command = ⊥
 pub record IsWritable (program : Program) (position : ℕ) (command : Command) : Type 0 where
   pub few : AreFew (slots_at program position)
   pub written : IsWritten (slots_at program position) command
+
+-- each command of a function can be written
+pub record AreWritable (program : Program) : Type 0 where
+  pub each : (position : ℕ) (command : Command) → 7 ≤ position → command_at program position ≡ Some command → IsWritable program position command
 
 -- ---- their instructions
 

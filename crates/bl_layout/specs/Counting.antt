@@ -32,7 +32,7 @@ counting = record {
   functions = record { params = []; results = []; vars = 1; length = 2 } ∷ [];
   exports = [];
   commands = map Trap (take 7 kinds)
-      ++ Set (record { depth = 1; protect = false }) I32Add (record { 0 = 0 }) (variable 0) (Const 1) (Const 0)
+      ++ Set (record { depth = 0; protect = false }) I32Add (record { 0 = 0 }) (variable 0) (Const 1) (Const 0)
       ∷ Test (variable 0) (record { 0 = 7 }) (record { 0 = 0 })
       ∷ [];
   demands = [];

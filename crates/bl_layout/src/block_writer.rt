@@ -1,7 +1,7 @@
 //! The instructions of one command.
-ghost use Rattle.std.specs.Prelude.{◌≡◌, ◌+◌, ◌≤◌, ◌<◌, ◌↔◌, ◌++◌, ℕ, IsTrue, OnOk, length, slice_index};
-ghost use Rattle.bl_program.specs.{Layout.base, Rules.GoesTo};
-ghost use Rattle.bl_layout.specs.Blocks.{IsWritable, IsWritten, block_at, block_of};
+ghost use Rattle.std.specs.Prelude.{◌≡◌, ◌+◌, ◌≤◌, ◌<◌, ◌↔◌, ◌++◌, ℕ, IfOk, IsTrue, OnOk, Some, length, slice_index};
+ghost use Rattle.bl_program.specs.{Layout.base, Layout.command_at, Rules.GoesTo};
+ghost use Rattle.bl_layout.specs.Blocks.{AreWritable, IsWritable, IsWritten, block_at, block_of};
 ghost use Rattle.bl_layout.specs.Slots.{AreFew, placing_in};
 ghost use Rattle.bl_seq.specs.Layouts.{IsLayout};
 
@@ -112,13 +112,36 @@ pub(crate) fn push_at(
     code: &mut Vec<Instruction>,
 ) -> Result<(), NoMemory>
     requires layout { IsLayout layout.now }
-    requires writable { 7 ≤ position → IsWritable layout.now.parts.now position command }
-    requires within { position < length targets.now }
-    requires targets { (to : ℕ) → GoesTo command to → to < length targets.now }
+    requires writable { AreWritable layout.now.parts.now }
+    requires targets { length targets.now ≡ length layout.now.parts.now.commands + 1 }
+    requires there { command_at layout.now.parts.now position ≡ Some command }
     ensures { OnOk result (code.new.items ≡ code.old.items ++ block_at layout.now.parts.now (slice_index targets.now) position command) }
 {
     if position < FIRST_ENTRY as usize {
         return push_jump(targets[position], code);
     }
-    push_block(layout, Slots::at(layout, position), targets, command, code)
+    let slots = Slots::at(layout, position);
+    push_block(layout, slots, targets, command, code)
+}
+
+/// The number of instructions of the command at a position. The vector is overwritten.
+pub(crate) fn count_at(
+    layout: &Layout,
+    targets: &[u32],
+    position: usize,
+    command: Command,
+    block: &mut Vec<Instruction>,
+) -> Result<u32, NoMemory>
+    requires layout { IsLayout layout.now }
+    requires writable { AreWritable layout.now.parts.now }
+    requires targets { length targets.now ≡ length layout.now.parts.now.commands + 1 }
+    requires there { command_at layout.now.parts.now position ≡ Some command }
+    ensures count { IfOk result (λ count. count ≡ length (block_at layout.now.parts.now (slice_index targets.now) position command)) }
+    ensures few { IfOk result (λ count. count ≤ 21) }
+{
+    block.clear();
+    push_at(layout, targets, position, command, block)?;
+    let count = block.len();
+    prove!(count <= 21);
+    Ok(count as u32)
 }

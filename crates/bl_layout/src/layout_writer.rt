@@ -1,12 +1,10 @@
 //! The instructions of a whole program, in two passes: the first counts the instructions of each command, and the second writes them.
-ghost use Rattle.std.specs.Prelude.{◌≡◌, ◌+◌, ◌*◌, ◌≤◌, ◌<◌, ℕ, IfErr, IfOk, MatchOption, Some, length, replicate, slice_index};
-ghost use Rattle.bl_program.specs.Layout.{command_at};
-ghost use Rattle.bl_program.specs.declared.command.Command.{Command as TheCommand};
-ghost use Rattle.bl_layout.specs.Blocks.{IsWritable, blocks_from};
+ghost use Rattle.std.specs.Prelude.{◌≡◌, ◌+◌, IfErr, IfOk, MatchOption, length, replicate, slice_index};
+ghost use Rattle.bl_layout.specs.Blocks.{AreWritable, blocks_from};
 ghost use Rattle.bl_layout.specs.Layouts.{AreStarts, IsFirstRefused, IsLaidOut};
 ghost use Rattle.bl_seq.specs.Layouts.{IsLayout};
 
-use crate::block_writer::{is_writable, push_at};
+use crate::block_writer::{count_at, is_writable, push_at};
 use bl_base::{NoMemory, Pos};
 use bl_program::{FIRST_ENTRY, WellFormed};
 use bl_seq::Layout;
@@ -25,9 +23,7 @@ pub struct Code {
 /// The first position of a function whose command cannot be written.
 fn first_refused(layout: &Layout) -> Option<Pos>
     requires { IsLayout layout.now }
-    ensures { MatchOption result
-        ((position : ℕ) (command : TheCommand) → 7 ≤ position → command_at layout.now.parts.now position ≡ Some command → IsWritable layout.now.parts.now position command)
-        (λ refused. IsFirstRefused layout.now.parts.now refused.0) }
+    ensures { MatchOption result (AreWritable layout.now.parts.now) (λ refused. IsFirstRefused layout.now.parts.now refused.0) }
 {
     for (position, command) in layout.parts.commands.as_slice().iter().enumerate() {
         if position >= FIRST_ENTRY as usize && !is_writable(layout, position, *command) {
@@ -51,7 +47,7 @@ fn zeros(alloc: Global, count: usize) -> Result<Vec<u32>, NoMemory>
 /// The first instruction of each position, and the number of all instructions.
 fn starts_of(alloc: Global, layout: &Layout, targets: &[u32]) -> Result<Vec<u32>, NoMemory>
     requires layout { IsLayout layout.now }
-    requires writable { (position : ℕ) (command : TheCommand) → 7 ≤ position → command_at layout.now.parts.now position ≡ Some command → IsWritable layout.now.parts.now position command }
+    requires writable { AreWritable layout.now.parts.now }
     requires targets { length targets.now ≡ length layout.now.parts.now.commands + 1 }
     ensures { IfOk result (λ starts. AreStarts layout.now.parts.now (slice_index targets.now) starts.items) }
 {
@@ -60,9 +56,8 @@ fn starts_of(alloc: Global, layout: &Layout, targets: &[u32]) -> Result<Vec<u32>
     let mut start: u32 = 0;
     starts.push(0)?;
     for (position, command) in layout.parts.commands.as_slice().iter().enumerate() {
-        block.clear();
-        push_at(layout, targets, position, *command, &mut block)?;
-        start += block.len() as u32;
+        let count = count_at(layout, targets, position, *command, &mut block)?;
+        start += count;
         starts.push(start)?;
     }
     Ok(starts)
@@ -75,7 +70,7 @@ fn instructions_of(
     targets: &[u32],
 ) -> Result<Vec<Instruction>, NoMemory>
     requires layout { IsLayout layout.now }
-    requires writable { (position : ℕ) (command : TheCommand) → 7 ≤ position → command_at layout.now.parts.now position ≡ Some command → IsWritable layout.now.parts.now position command }
+    requires writable { AreWritable layout.now.parts.now }
     requires targets { length targets.now ≡ length layout.now.parts.now.commands + 1 }
     ensures { IfOk result (λ code. code.items ≡ blocks_from layout.now.parts.now (slice_index targets.now) 0 layout.now.parts.now.commands) }
 {
@@ -89,7 +84,7 @@ fn instructions_of(
 /// The code of a program all of whose commands can be written.
 fn code_of(alloc: Global, layout: &Layout) -> Result<Code, NoMemory>
     requires layout { IsLayout layout.now }
-    requires writable { (position : ℕ) (command : TheCommand) → 7 ≤ position → command_at layout.now.parts.now position ≡ Some command → IsWritable layout.now.parts.now position command }
+    requires writable { AreWritable layout.now.parts.now }
     ensures { IfOk result (λ code. IsLaidOut layout.now.parts.now code.starts.items code.instructions.items) }
 {
     let none = zeros(alloc, layout.parts.commands.len() + 1)?;
