@@ -149,17 +149,21 @@ code_more program targets k command old new all got e so_far =
 
 -- ---- the check of each command
 
-pub one_writable : (program : Program) (n : ℕ) (d : Command) → n < length program.commands
+-- the command that a loop over the commands reads
+pub item_there : (program : Program) (xs : List Command) (n : ℕ) (d : Command) → xs ≡ program.commands → n < length xs → command_at program n ≡ Some (get_or xs n d)
+item_there program xs n d e lt = ap (λ l. slice_get l n) (sym e) ∙ slice_get-get_or xs n d lt
+
+pub one_writable : (program : Program) (n : ℕ) (item : Command) → command_at program n ≡ Some item
     → ((other : ℕ) (earlier : Command) → 7 ≤ other → other < n → command_at program other ≡ Some earlier → IsWritable program other earlier)
-    → (7 ≤ n → IsWritable program n (get_or program.commands n d))
+    → (7 ≤ n → IsWritable program n item)
     → (other : ℕ) (earlier : Command) → 7 ≤ other → other < n + 1 → command_at program other ≡ Some earlier → IsWritable program other earlier
-one_writable program n d lt so_far good other earlier le below got = by_order (cases_lt other n)
+one_writable program n item there so_far good other earlier le below got = by_order (cases_lt other n)
   where
     by_order : (other < n) ⊎ (n ≤ other) → IsWritable program other earlier
     by_order (inl low) = so_far other earlier le low got
     by_order (inr high) =
         let here : n ≡ other = omega arith in
-        let same : get_or program.commands n d ≡ earlier = same_Some (get_or program.commands n d) earlier (sym (slice_get-get_or program.commands n d lt) ∙ ap (slice_get program.commands) here ∙ got) in
+        let same : item ≡ earlier = same_Some item earlier (sym there ∙ ap (command_at program) here ∙ got) in
         subst (λ k. IsWritable program k earlier) here (subst (λ x. IsWritable program n x) same (good (omega arith)))
 
 pub all_writable : (program : Program) (n : ℕ) → length program.commands ≤ n

@@ -1,12 +1,12 @@
 //! The instructions of a whole program, in two passes: the first counts the instructions of each command, and the second writes them.
-ghost use Rattle.std.specs.Prelude.{◌≡◌, ◌+◌, IfErr, IfOk, MatchOption, length, replicate, slice_index};
-ghost use Rattle.bl_layout.specs.Blocks.{AreWritable, blocks_from};
+ghost use Rattle.std.specs.Prelude.{◌≡◌, ◌+◌, ◌≤◌, ◌↔◌, IfErr, IfOk, IsTrue, MatchOption, length, slice_index};
+ghost use Rattle.bl_layout.specs.Blocks.{AreWritable, IsWritable, blocks_from};
 ghost use Rattle.bl_layout.specs.Layouts.{AreStarts, IsFirstRefused, IsLaidOut};
 ghost use Rattle.bl_seq.specs.Layouts.{IsLayout};
 
 use crate::block_writer::{count_at, is_writable, push_at};
 use bl_base::{NoMemory, Pos};
-use bl_program::{FIRST_ENTRY, WellFormed};
+use bl_program::{Command, FIRST_ENTRY, WellFormed};
 use bl_seq::Layout;
 use bl_x64::Instruction;
 use std::alloc::Global;
@@ -20,14 +20,23 @@ pub struct Code {
     pub instructions: Vec<Instruction>,
 }
 
+/// Whether a position is that of a trap, or its command can be written.
+fn is_fine(layout: &Layout, position: usize, command: Command) -> bool
+    requires { IsLayout layout.now }
+    ensures { IsTrue result ↔ (7 ≤ position → IsWritable layout.now.parts.now position command) }
+{
+    position < FIRST_ENTRY as usize || is_writable(layout, position, command)
+}
+
 /// The first position of a function whose command cannot be written.
 fn first_refused(layout: &Layout) -> Option<Pos>
     requires { IsLayout layout.now }
     ensures { MatchOption result (AreWritable layout.now.parts.now) (λ refused. IsFirstRefused layout.now.parts.now refused.0) }
 {
     for (position, command) in layout.parts.commands.as_slice().iter().enumerate() {
-        if position >= FIRST_ENTRY as usize && !is_writable(layout, position, *command) {
-            return Some(Pos(position as u32));
+        if !is_fine(layout, position, *command) {
+            let at = position as u32;
+            return Some(Pos(at));
         }
     }
     None
@@ -35,7 +44,7 @@ fn first_refused(layout: &Layout) -> Option<Pos>
 
 /// So many zeros.
 fn zeros(alloc: Global, count: usize) -> Result<Vec<u32>, NoMemory>
-    ensures { IfOk result (λ zeros. zeros.items ≡ replicate count 0) }
+    ensures { IfOk result (λ zeros. length zeros.items ≡ count) }
 {
     let mut zeros = Vec::new(alloc);
     for done in 0..count {
@@ -87,7 +96,8 @@ fn code_of(alloc: Global, layout: &Layout) -> Result<Code, NoMemory>
     requires writable { AreWritable layout.now.parts.now }
     ensures { IfOk result (λ code. IsLaidOut layout.now.parts.now code.starts.items code.instructions.items) }
 {
-    let none = zeros(alloc, layout.parts.commands.len() + 1)?;
+    let count = layout.parts.commands.len() + 1;
+    let none = zeros(alloc, count)?;
     let starts = starts_of(alloc, layout, &none)?;
     let instructions = instructions_of(alloc, layout, &starts)?;
     Ok(Code {
