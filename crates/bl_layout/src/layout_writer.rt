@@ -98,8 +98,10 @@ fn code_of(alloc: Global, layout: &Layout) -> Result<Code, NoMemory>
 {
     let count = layout.parts.commands.len() + 1;
     let none = zeros(alloc, count)?;
-    let starts = starts_of(alloc, layout, &none)?;
-    let instructions = instructions_of(alloc, layout, &starts)?;
+    let no_targets = none.as_slice();
+    let starts = starts_of(alloc, layout, no_targets)?;
+    let targets = starts.as_slice();
+    let instructions = instructions_of(alloc, layout, targets)?;
     Ok(Code {
         starts,
         instructions,

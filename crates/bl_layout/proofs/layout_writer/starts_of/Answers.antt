@@ -7,8 +7,8 @@ pub overflow_add-start : goal.overflow_add-start
 overflow_add-start c =
     omega (arith, c.loop-position.invariant.few, c.in_ok-count.ensures.few, c.requires.layout.rules.rule2.commands, c.loop-position-test.true, ap length c.as_slice-command-items.ensures)
 
-pub count_at-count-requires-clause-there : goal.count_at-count-requires-clause-there
-count_at-count-requires-clause-there c = item_there c.args.layout.now.parts.now c.as_slice-command-items.result.now c.loop-position.position _ c.as_slice-command-items.ensures c.loop-position-test.true
+pub count_at-requires-clause-there : goal.count_at-requires-clause-there
+count_at-requires-clause-there c = item_there c.args.layout.now.parts.now c.as_slice-command-items.result.now c.loop-position.position _ c.as_slice-command-items.ensures c.loop-position-test.true
 
 pub loop-position-preserved : goal.loop-position-preserved
 loop-position-preserved c =
