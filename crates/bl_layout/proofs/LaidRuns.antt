@@ -40,9 +40,9 @@ module _ (program : Program) (facts : IsProgram program) (rules : IsWellFormed p
         let place = laid.starts_are.each position (omega (arith, within)) in
         let rest = blocks_from program begins (suc (0 + position)) (drop (suc position) program.commands) in
         stands_at code (begins position) (block_at program begins position command) rest
-            (ap (λ k. drop k code) place ∙ ap (λ l. drop (count_from program begins 0 program.commands position) l) laid.code_is
-            ∙ blocks_at program begins 0 program.commands position command got
-            ∙ ap (λ n. block_at program begins n command ++ rest) none)
+        (ap (λ k. drop k code) place ∙ ap (λ l. drop (count_from program begins 0 program.commands position) l) laid.code_is
+        ∙ blocks_at program begins 0 program.commands position command got
+        ∙ ap (λ n. block_at program begins n command ++ rest) none)
 
     -- the next command begins behind them
     block_ends : begins (suc position) ≡ length (block_at program begins position command) + begins position

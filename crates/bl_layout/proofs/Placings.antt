@@ -124,6 +124,6 @@ module _ (program : Program) where
   pub passes_out : (function : ℕ) → Passes (placing_in (slots_of program function)) (placing_in (slots_outside program))
   passes_out function = record {
     others = λ y h.
-      let static : ltb y (statics program) ≡ true = static_by function y (ltb y (statics program)) h in
-      (alive_static (slots_of program function) y static, static_place (slots_outside program) y static ∙ sym (static_place (slots_of program function) y static));
+        let static : ltb y (statics program) ≡ true = static_by function y (ltb y (statics program)) h in
+        (alive_static (slots_of program function) y static, static_place (slots_outside program) y static ∙ sym (static_place (slots_of program function) y static));
   }

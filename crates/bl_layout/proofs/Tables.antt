@@ -2,7 +2,7 @@
 use Rattle.std.proofs.Common.{◌≡◌, ℕ, zero, suc, ◌+◌, ◌*◌, ◌<◌, ◌≤◌, ◌⊎◌, inl, inr, Bool, true, false, cond, ltb, List, [], ◌∷◌, ◌++◌, length, drop, get_or, Some, slice_get, slice_index, refl, sym, ap, ap₂, ◌∙◌, subst, append_assoc, arith, length-append}
 use Rattle.std.proofs.Math.ListN.{get_or-append}
 use Rattle.std.proofs.Math.Seq.{drop-append-add}
-use Rattle.std.proofs.lemmas.Bool.{cases_lt, le-ltb, lt-ltb}
+use Rattle.std.proofs.lemmas.Bool.{cases_lt}
 use Rattle.std.proofs.lemmas.List.{get_or_push}
 use Rattle.std.proofs.lemmas.Option.{none-some, same_Some, slice_get-get_or, slice_get_within}
 use Rattle.bl_program.specs.Layout.{base, command_at}
@@ -16,7 +16,7 @@ use Rattle.bl_select.specs.Templates.{jump_template}
 use Rattle.bl_select.proofs.Lengths.{set_length, load_length, store_length}
 use Rattle.bl_layout.specs.Blocks.{AreWritable, IsWritable, block_of, block_at, blocks_from, count_from}
 use Rattle.bl_layout.specs.Layouts.{AreStarts}
-use Rattle.bl_layout.specs.Slots.{placing_at, placing_in, slots_at}
+use Rattle.bl_layout.specs.Slots.{placing_at}
 
 -- ---- lengths
 
@@ -61,16 +61,6 @@ module _ (program : Program) where
 
   pub starts_same : (one other : ℕ → ℕ) (starts : List ℕ) → AreStarts program one starts → AreStarts program other starts
   starts_same one other starts are = record { count = are.count; each = λ k h. are.each k h ∙ count_same one other 0 program.commands k }
-
-  -- the instructions of a trap, and those of another command
-  pub block_of_trap : (begins : ℕ → ℕ) (position : ℕ) (command : Command) → position < 7 → block_at program begins position command ≡ jump_template (begins position)
-  block_of_trap begins position command h =
-      ap (λ t. cond t (jump_template (begins position)) (block_of (placing_at program position) (base program) begins command)) (lt-ltb position 7 h)
-
-  pub block_behind : (begins : ℕ → ℕ) (position : ℕ) (command : Command) → 7 ≤ position
-      → block_at program begins position command ≡ block_of (placing_in (slots_at program position)) (base program) begins command
-  block_behind begins position command h =
-      ap (λ t. cond t (jump_template (begins position)) (block_of (placing_at program position) (base program) begins command)) (le-ltb position 7 h)
 
   -- ---- one command more
 

@@ -92,7 +92,13 @@ fn push_block(
             value,
         } => {
             let place = layout.base(memory) as u64 + offset as u64;
-            push_store(kind, place, slots.source(address), slots.source(value), code)
+            push_store(
+                kind,
+                place,
+                slots.source(address),
+                slots.source(value),
+                code,
+            )
         }
         Command::Test { cond, yes, no } => {
             let (yes, no) = (target(targets, yes), target(targets, no));

@@ -1,10 +1,8 @@
-use Rattle.std.proofs.Common.{◌≡◌, ◌++◌, OnOk, slice_index, sym, ap, ◌∙◌, subst, arith}
+use Rattle.std.proofs.Common.{sym, subst, arith}
 use Rattle.std.proofs.lemmas.Option.{slice_get_within}
-use Rattle.bl_program.specs.Layout.{base}
-use Rattle.bl_layout.specs.Blocks.{IsWritten, block_of}
-use Rattle.bl_layout.specs.Slots.{AreFew, placing_in}
+use Rattle.bl_layout.specs.Blocks.{IsWritten}
+use Rattle.bl_layout.specs.Slots.{AreFew}
 use Rattle.bl_layout.proofs.Commands.{target_within}
-use Rattle.bl_layout.proofs.Tables.{block_behind, block_of_trap}
 use Rattle.bl_layout.proofs.block_writer.push_at.Goals as goal
 
 pub bounds-targets-position : goal.bounds-targets-position

@@ -10,4 +10,4 @@ pub returns : goal.returns
 returns c program starts code frame laid frames room n s t core reached matches run =
     let e = selection_of program frame (slice_index starts) in
     runs_follow program e code frames (placings program frame room) n s t core matches
-        (runs_within program e code n s t reached (runs_chosen program reached.facts reached.rules starts code laid frame n s t run))
+    (runs_within program e code n s t reached (runs_chosen program reached.facts reached.rules starts code laid frame n s t run))
