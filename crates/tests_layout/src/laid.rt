@@ -48,7 +48,12 @@ fn laid_out(alloc: Global, image: &[u8]) -> Result<Result<Code, Pos>, NoMemory> 
 
 /// Whether bytes are those of the traps and then those of the function.
 fn are_bytes(bytes: &[u8]) -> bool {
-    bytes.len() == 82 && bytes[..35] == TRAP_BYTES && bytes[35..] == FUNCTION_BYTES
+    match bytes.split_at_checked(TRAP_BYTES.len()) {
+        Some((traps, function)) => {
+            traps == TRAP_BYTES.as_slice() && function == FUNCTION_BYTES.as_slice()
+        }
+        None => false,
+    }
 }
 
 /// Whether code has these first instructions and these bytes.
