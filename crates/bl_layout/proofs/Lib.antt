@@ -1,0 +1,5 @@
+pub mod Commands
+pub mod LaidRuns
+pub mod Placings
+pub mod Tables
+pub mod WorkedRuns

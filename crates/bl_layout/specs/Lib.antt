@@ -1,0 +1,4 @@
+pub mod Blocks
+pub mod Counting
+pub mod Layouts
+pub mod Slots
