@@ -650,6 +650,7 @@ class Routine(NamedTuple):
 
 
 PLAIN, SPLIT = ("constant-time yes: none of ",), ("constant-time yes: none of ", "after splitting")
+LONG = ("sha256", "blake2b")  # only with --all: they take twenty seconds of a processor
 ROUTINES: List[Routine] = [
     Routine("lookup", LEAK, ("examples/lookup.rs:12:15: error: a secret is part of the address of a load",)),
     Routine("early_exit", LEAK, ("examples/early_exit.rs:11:12: error: a branch depends on a secret",)),
