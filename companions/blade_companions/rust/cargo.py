@@ -261,8 +261,9 @@ def places(target: Target, profile: str) -> List[str]:
     return [f"{folder}/{one}" for folder in folders for one in os.listdir(folder) if is_such.fullmatch(one)]
 
 
-def collected(target: Target, words: Sequence[str], profile: str,
-              runner: Runner) -> Tuple[List[dict], Linked]:
+def collected(
+    target: Target, words: Sequence[str], profile: str, runner: Runner
+) -> Tuple[List[dict], Linked]:
     """Cargo's messages, and what the target would be linked of. The target is always made anew, and nobody
     else builds meanwhile: else this could be what was made of another package with a target of this name."""
     os.makedirs(f"{target.folder}/build", exist_ok=True)
