@@ -159,3 +159,14 @@ one_writable program n item there so_far good other earlier le below got = by_or
 pub all_writable : (program : Program) (n : ℕ) → length program.commands ≤ n
     → ((other : ℕ) (earlier : Command) → 7 ≤ other → other < n → command_at program other ≡ Some earlier → IsWritable program other earlier) → AreWritable program
 all_writable program n le h = record { each = λ position command from got. h position command from (omega (arith, slice_get_within program.commands position command got)) got }
+
+-- a position at which the test fails is one of a function
+pub refused_late : (position : ℕ) (Fine : Type 0) → ((7 ≤ position → Fine) → false ≡ true) → 7 ≤ position
+refused_late position Fine told = by_order (cases_lt position 7)
+  where
+    false_true : false ≡ true → ⊥
+    false_true e = cc
+
+    by_order : (position < 7) ⊎ (7 ≤ position) → 7 ≤ position
+    by_order (inl low) = absurd (false_true (told (λ high. absurd (omega (arith, low, high)))))
+    by_order (inr high) = high

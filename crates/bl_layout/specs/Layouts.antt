@@ -17,8 +17,9 @@ pub record IsLaidOut (program : Program) (starts : List ℕ) (code : List Instru
   pub starts_are : AreStarts program (slice_index starts) starts
   pub code_is : code ≡ blocks_from program (slice_index starts) 0 program.commands
 
--- the first command of a function that cannot be written is at this position
+-- the first command of a function that cannot be written is at this position. No trap is refused, although `IsWritable` holds for none
 pub record IsFirstRefused (program : Program) (position : ℕ) : Type 0 where
+  pub of_a_function : 7 ≤ position
   pub command : Command
   pub there : command_at program position ≡ Some command
   pub refused : IsWritable program position command → ⊥

@@ -1,5 +1,5 @@
 use Rattle.std.proofs.Common.{◌≡◌, true, false, length, refl, ap, arith}
-use Rattle.bl_layout.proofs.Tables.{all_writable, item_there, one_writable}
+use Rattle.bl_layout.proofs.Tables.{all_writable, item_there, one_writable, refused_late}
 use Rattle.bl_layout.proofs.layout_writer.first_refused.Goals as goal
 
 pub overflow_cast-at : goal.overflow_cast-at
@@ -12,6 +12,7 @@ loop-position-preserved c =
 
 pub returns-then-not-is_fine : goal.returns-then-not-is_fine
 returns-then-not-is_fine c = record {
+  of_a_function = refused_late c.loop-position.position _ c.if-not-is_fine.ensures.1;
   command = _;
   there = item_there c.args.layout.now.parts.now c.as_slice-command-items.result.now c.loop-position.position _ c.as_slice-command-items.ensures c.loop-position-test.true;
   refused = λ w. let told : false ≡ true = c.if-not-is_fine.ensures.1 (λ _. w) in cc;
