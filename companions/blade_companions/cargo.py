@@ -7,7 +7,7 @@ public domain (CC0).
                                          report.txt, problems.json, NAME.sarif
 
 The macros secret_param!, secret_memory! and public_result! of the crate blade-labels say what is secret.
-WORDS:
+cargo-blade [WORDS] does the same. WORDS:
     --manifest-path FILE     the Cargo.toml of the crate, or of its workspace
     -p, --package NAME       this package of the workspace
     --lib, --example NAME, --test NAME
@@ -170,9 +170,9 @@ class CargoDriver(Driver):
         return found
 
     def put(self, name: str, data: bytes) -> None:
-        super().put(
-            name, words.spoken(data.decode("utf-8", "surrogateescape")).encode("utf-8", "surrogateescape")
-        )
+        spoken = words.spoken_in_json if name.endswith((".json", ".sarif")) else words.spoken
+        text = spoken(data.decode("utf-8", "surrogateescape"))
+        super().put(name, text.encode("utf-8", "surrogateescape"))
 
     def explaining(self, made: str) -> List[str]:
         return super().explaining(made) + ["--page", self.given.page] * bool(self.given.page)
@@ -215,6 +215,7 @@ def status_of(given: Sequence[str], usage: str) -> int:
         )
         status = driver.all()
     except Stop as stop:
+        stop.lines = tuple(map(words.spoken, stop.lines))
         write_errors(driver, stop)
         for line in (line for one in stop.lines for line in one.split("\n")):
             say(line, sys.stderr)

@@ -1,4 +1,5 @@
 """Names of Rust's symbols, and how messages speak of Rust. Licence: public domain (CC0)."""
+import json
 import os
 import shutil
 import subprocess
@@ -130,6 +131,11 @@ class Words(unittest.TestCase):
         for of_c, _ in words.PHRASES:
             for part in of_c.replace('"', " ").split(": ")[0:1]:
                 self.assertTrue(any(piece in flat for piece in (part.strip(), part.strip()[:24])), of_c)
+
+    def test_a_name_with_quotes_is_escaped_in_json(self) -> None:
+        symbol = "_RMC0FKCuEu"
+        self.assertEqual(demangled(symbol), '<extern "C" fn(())>')
+        self.assertEqual(json.loads(words.spoken_in_json(f'"{symbol}"')), '<extern "C" fn(())>')
 
     def test_paths_of_crates_are_short(self) -> None:
         for path, short in (

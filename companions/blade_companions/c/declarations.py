@@ -136,6 +136,10 @@ class Resolver:
         walk = Walk(self.module)
         return walk.run(), walk.folders
 
+    def read(self) -> List[Subprogram]:
+        """Reads DWARF, once. A fault in it is one of the module, and not of a line."""
+        return self.told
+
     @property
     def told(self) -> List[Subprogram]:
         return self.walked[0]
@@ -276,6 +280,8 @@ def of_source(module: Module, answered: Set[Named]) -> Labelled:
     found: List[Tuple[Entry, str]] = []
     errors: List[str] = []
     resolver = Resolver(module) if lines else None
+    if any(KINDS[one.kind].names[0] == "function" for one in lines):
+        resolver.read()
     seen: Set[Entry] = set()
     for one in lines:
         try:

@@ -1,13 +1,20 @@
 """Whether C's variables can stand for an image's registers. Licence: public domain (CC0).
 
 A register of an image keeps its number from one call to the next at the same depth; a variable of C begins
-with each call. Both agree where every call writes a variable before it reads it. An image that doesn't is
-refused, with the position:
+with each call. Both agree if the image is definite. A running call has four kinds of facts:
 
-- a local is written before it is read, in the same call;
-- all parameters of a called function are given by Args that no other Call parts from the Call;
-- a result is read behind a Call of its function;
-- at each Ret all results of the function are given."""
+- A variable of the function, which is not a result, was written in this call.
+- An Arg gave the parameter of a function a value, and no Call has come since.
+- The last Call was a call of a certain function, so this function's results can be read.
+- An Out gave a result of the running function a value.
+
+At a function's entry, only its parameters are known to be written. A command needs a fact of the first or
+the third kind for each variable that it reads. Globals and sizes of memories need nothing. A Call needs a
+value of each parameter, and a Ret needs a value of each result. An image is definite if no path leads to a
+command that needs a fact which is not true on this path. An image that is not definite is refused, with the
+position.
+
+Each path begins at a function's entry. Commands that no path reaches are not translated, and need nothing."""
 from __future__ import annotations
 
 from typing import Dict, Iterable, List, NamedTuple, Tuple
@@ -24,11 +31,11 @@ LOCAL, ARGUMENT, RETURNED, GIVEN = "local", "argument", "result of a call", "res
 
 
 class Effect(NamedTuple):
-    """Of a command: what it needs to be written, what it writes, and whether all arguments are taken."""
+    """Of a command: what it needs to be written, what it writes, and whether it is a Call."""
 
     needs: List[Fact]
     writes: List[Fact]
-    takes: bool = False
+    calls: bool = False
 
 
 class Inexact(Bad):
@@ -61,7 +68,7 @@ class Function:
             callee = self.image.functions[self.image.function_at(command.targets[0])]
             arguments = [(ARGUMENT, variable) for variable in callee.parameter_variables]
             results = [(RETURNED, variable) for variable in callee.result_variables]
-            return Effect(arguments, results, takes=True)
+            return Effect(arguments, results, calls=True)
         if command.kind == "Ret":
             return Effect([(GIVEN, variable) for variable in self.function.result_variables], [])
         return Effect(needs, [])
@@ -79,8 +86,8 @@ class Function:
             effect = self.effect(position)
             if check:
                 self.check(position, effect, known)
-            if effect.takes:
-                known &= ~self.arguments
+            if effect.calls:
+                known &= ~self.lost
             known |= self.mask(effect.writes)
         return known
 
@@ -94,7 +101,7 @@ class Function:
         for position in self.blocks.reached:
             effect = self.effect(position)
             self.mask(effect.needs + effect.writes)
-        self.arguments = sum(1 << bit for (kind, _), bit in self.bits.items() if kind == ARGUMENT)
+        self.lost = sum(1 << bit for (kind, _), bit in self.bits.items() if kind in (ARGUMENT, RETURNED))
         function = self.function
         before = {
             function.entry: self.mask((LOCAL, variable) for variable in function.parameter_variables)

@@ -7,7 +7,7 @@ import re
 from typing import List, Sequence, Set
 
 from . import cargo
-from .records import Record
+from .records import MARK, Record
 from .units import Crate, crate_of, defined_in, kept, lost
 from ..c.arguments import BUILD, LABELS, Asked, Stop
 from ..c.build import Builder
@@ -80,6 +80,9 @@ class RustBuilder(Builder):
 
     def other(self, at: int, one: Input) -> str:
         """An object that no crate's code is in."""
+        if MARK.encode() in one.data:
+            raise Stop(LABELS, f"cargo-blade: error: {os.path.basename(one.path)} has labels, and it is no "
+                       "bitcode: was it compiled without cargo-blade? [blade-label]")
         path = f"{self.folder}/{at}.other.o"
         written_to(path, one.data)
         return path

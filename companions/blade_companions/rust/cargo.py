@@ -4,6 +4,7 @@ from __future__ import annotations
 
 import fcntl
 import functools
+import hashlib
 import io
 import json
 import os
@@ -61,6 +62,13 @@ class Target:
     source: str
     is_cdylib: bool
     folder: str
+    workspace: str
+
+    @property
+    def build(self) -> str:
+        """Cargo's folder for this workspace alone: cargo takes packages of two workspaces for one, if they
+        have the same name, version and place there."""
+        return f"{self.folder}/build-{hashlib.sha256(os.fsencode(self.workspace)).hexdigest()[:16]}"
 
 
 @dataclass
@@ -174,7 +182,7 @@ def target_of(manifest: Optional[str], package: Optional[str], kind: str, name: 
         one["name"],
         one["src_path"],
         one["crate_types"] == ["cdylib"],
-        f"{told['target_directory']}/blade",
+        f"{told['target_directory']}/blade", told["workspace_root"],
     )
 
 
@@ -223,7 +231,7 @@ def built(target: Target, words: Sequence[str], profile: str, runner: Runner) ->
         "--target",
         TARGET,
         "--target-dir",
-        f"{target.folder}/build",
+        target.build,
         "--message-format=json-render-diagnostics",
         *kind,
         *words,
@@ -254,19 +262,20 @@ def built(target: Target, words: Sequence[str], profile: str, runner: Runner) ->
 
 def places(target: Target, profile: str) -> List[str]:
     """Where cargo has put modules of the target's name, of whichever package."""
-    top = f"{target.folder}/build/{TARGET}/{FOLDERS.get(profile, profile)}"
+    top = f"{target.build}/{TARGET}/{FOLDERS.get(profile, profile)}"
     names = "|".join(re.escape(one) for one in (target.name, target.name.replace("-", "_")))
     is_such = re.compile(rf"(?:{names})(?:-[0-9a-f]{{16}})?\.wasm")
     folders = [folder for folder in (top, f"{top}/deps", f"{top}/examples") if os.path.isdir(folder)]
     return [f"{folder}/{one}" for folder in folders for one in os.listdir(folder) if is_such.fullmatch(one)]
 
 
-def collected(target: Target, words: Sequence[str], profile: str,
-              runner: Runner) -> Tuple[List[dict], Linked]:
+def collected(
+    target: Target, words: Sequence[str], profile: str, runner: Runner
+) -> Tuple[List[dict], Linked]:
     """Cargo's messages, and what the target would be linked of. The target is always made anew, and nobody
     else builds meanwhile: else this could be what was made of another package with a target of this name."""
-    os.makedirs(f"{target.folder}/build", exist_ok=True)
-    with open(f"{target.folder}/build/.lock", "w", encoding="ascii") as lock:
+    os.makedirs(target.build, exist_ok=True)
+    with open(f"{target.build}/.lock", "w", encoding="ascii") as lock:
         fcntl.flock(lock, fcntl.LOCK_EX)
         for path in places(target, profile):
             os.remove(path)

@@ -2,10 +2,12 @@
 and remedies that Rust has. Licence: public domain (CC0)."""
 from __future__ import annotations
 
+import json
 import re
 from typing import List, Sequence, Tuple
 
-from .demangling import names_told
+from .demangling import SYMBOL, names_told
+from .demangling import told as told_name
 from ..nesting import shortened
 
 MEMORY = "secret_memory!()"
@@ -130,6 +132,17 @@ def in_rust(text: str) -> str:
 def spoken(text: str) -> str:
     """A text of blade-cc as it is told of Rust, with names in place of symbols."""
     return names_told(in_rust(text))
+
+
+def spoken_in_json(text: str) -> str:
+    """The same for a text in JSON."""
+    for of_c, of_rust in PHRASES:
+        text = text.replace(in_json(of_c), in_json(of_rust))
+    return SYMBOL.sub(lambda found: in_json(told_name(found[0])), text)
+
+
+def in_json(text: str) -> str:
+    return json.dumps(text)[1:-1]
 
 
 def told(text: str) -> str:

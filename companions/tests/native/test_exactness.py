@@ -65,6 +65,14 @@ class Exactness(unittest.TestCase):
         caller = Function([], [I32], 1, [(CALL, 0), (OUT, 0, 0, 0), (RET,)])
         self.assertEqual(refusal(callee, caller), "")
 
+    def test_a_result_that_another_call_ends(self) -> None:
+        first = Function([], [I32], 1, [(OUT, 0, 0, K(1)), (RET,)])
+        second = Function([], [], 0, [(RET,)])
+        caller = Function([], [I32], 1, [(CALL, 0), (CALL, 1), (OUT, 0, 0, 0), (RET,)])
+        self.assertEqual(
+            refusal(first, second, caller), "result of a call v0 isn't written before it is needed at 12"
+        )
+
     def test_an_argument_that_is_missing(self) -> None:
         callee = Function([I32], [], 1, [(RET,)])
         caller = Function([], [], 0, [(CALL, 0), (RET,)])

@@ -1,0 +1,4 @@
+pub mod Facts
+pub mod Search
+pub mod Tables
+pub mod Verdicts
