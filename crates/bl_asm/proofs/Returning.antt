@@ -67,8 +67,12 @@ module _ (areas : Areas) (code : List Instruction) (at : HasPlaces areas code) (
   registers_back R15 = refl
 
   pub comes_back : (d : Core) × StepsTo (machine_step areas code) 2 (standing position c) (standing (suc position) d) × IsBack c d
-  comes_back = (popped called, (standing to called, first, (standing (suc position) (popped called), second, refl)), record {
-    registers = registers_back;
-    flags = refl;
-    memory = λ address outside. written_outside c.memory (pushed_at c) address (bytes_of 8 back) outside;
-  })
+  comes_back = (
+    popped called,
+    (standing to called, first, (standing (suc position) (popped called), second, refl)),
+    record {
+      registers = registers_back;
+      flags = refl;
+      memory = λ address outside. written_outside c.memory (pushed_at c) address (bytes_of 8 back) outside;
+    },
+  )
