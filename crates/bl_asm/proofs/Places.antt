@@ -10,7 +10,7 @@ use Rattle.bl_base.proofs.ByteLemmas.{length-bytes_of}
 use Rattle.bl_ops.specs.Integer.{unsigned}
 use Rattle.bl_x64.specs.Machines.{widened}
 use Rattle.bl_x64.specs.declared.instruction.Instruction.{Instruction}
-use Rattle.bl_x64.specs.declared.instruction.Instruction.TheVariants.{Jump, JumpIf}
+use Rattle.bl_x64.specs.declared.instruction.Instruction.TheVariants.{Jump, JumpIf, Call}
 use Rattle.bl_asm.specs.Encoding.{encoded}
 use Rattle.bl_asm.specs.Assembly.{ArePlaces, IsCode, place_of, distance, aimed, bytes_from}
 
@@ -18,6 +18,7 @@ use Rattle.bl_asm.specs.Assembly.{ArePlaces, IsCode, place_of, distance, aimed, 
 pub length-aimed : (code : List Instruction) (end : ℕ) (i : Instruction) → length (encoded (aimed code end i)) ≡ length (encoded i)
 length-aimed code end (Jump to) = refl
 length-aimed code end (JumpIf condition to) = refl
+length-aimed code end (Call to) = refl
 length-aimed code end i = refl
 
 drop_behind : (front back : List ℕ) (n m : ℕ) → length front ≡ n → drop (n + m) (front ++ back) ≡ drop m back

@@ -24,7 +24,7 @@ use Rattle.bl_x64.specs.declared.instruction.Address.{Address}
 use Rattle.bl_x64.specs.declared.instruction.Place.{Place}
 use Rattle.bl_x64.specs.declared.instruction.Place.TheVariants.{Register as InRegister, Memory as InMemory}
 use Rattle.bl_x64.specs.declared.instruction.Instruction.{Instruction}
-use Rattle.bl_x64.specs.declared.instruction.Instruction.TheVariants.{Mov, Store, Constant, Extend, Alu, Test, Imul, Rotate, Count, SetIf, MoveIf, FillSign, Divide, Lfence, Jump, JumpIf}
+use Rattle.bl_x64.specs.declared.instruction.Instruction.TheVariants.{Mov, Store, Constant, Extend, Alu, Test, Imul, Rotate, Count, SetIf, MoveIf, FillSign, Divide, Lfence, Jump, JumpIf, Call, Ret}
 use Rattle.bl_asm.specs.Encoding.{wide, condition_code, alu_opcode, count_opcode, index_bit, base_bit, rex_byte, operand_bytes, one, two, constant_bytes, encoded}
 use Rattle.bl_asm.specs.Decoding.{Decoded, Prefix, Plain, Word, Repeat, Rex, size_of, register_of, condition_of, has_low_byte_at, operands, alu, count, constant, set_if, move_if, jump_if, rotations, give, give_if, at_register, at_memory, at_condition, at_rotation, is_extended, divide_by, decode_form, decode_opcode, decode_rex, decode}
 use Rattle.bl_asm.proofs.Operands.{code_small, register_is, base_bit-small, index_bit-small, immediate_is, operands_are, rex_with, rex_read, plain_read}
@@ -241,6 +241,8 @@ decode_is (FillSign size) h rest =
 decode_is (Divide sign size divisor) h rest = divide_is sign size divisor rest
 decode_is Lfence h rest = refl
 decode_is (Jump to) h rest = immediate_is 4 to rest (λ number more. give (Jump number) more) h
+decode_is (Call to) h rest = immediate_is 4 to rest (λ number more. give (Call number) more) h
+decode_is Ret h rest = refl
 decode_is (JumpIf condition to) h rest =
     jump_reads condition (bytes_of 4 to ++ rest)
     ∙ immediate_is 4 to rest (λ number more. at_condition (condition_of (condition_code condition)) (λ k. give (JumpIf k number) more)) h

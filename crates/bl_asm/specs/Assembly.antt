@@ -1,8 +1,8 @@
--- The bytes of a program: those of its instructions in order, with the number of each jump's target replaced by a distance. In volume
--- 2 of the manual see "JMP" and "Jcc" with rel32.
+-- The bytes of a program: those of its instructions in order, with the number of each target of a jump or a call replaced by a distance. In volume
+-- 2 of the manual see "JMP", "Jcc" and "CALL" with rel32.
 use Rattle.std.specs.Prelude.{ℕ, zero, suc, ◌+◌, ◌-◌, ◌%◌, ◌^◌, ◌≤◌, ◌<◌, ◌≡◌, List, [], ◌∷◌, ◌++◌, length, Some, slice_get, slice_index}
 use Rattle.bl_x64.specs.declared.instruction.Instruction.{Instruction}
-use Rattle.bl_x64.specs.declared.instruction.Instruction.TheVariants.{Jump, JumpIf}
+use Rattle.bl_x64.specs.declared.instruction.Instruction.TheVariants.{Jump, JumpIf, Call}
 use Rattle.bl_x64.specs.Programs.{IsInstruction}
 use Rattle.bl_asm.specs.Encoding.{encoded}
 
@@ -12,7 +12,7 @@ place_of code zero = 0
 place_of [] (suc position) = 0
 place_of (instruction ∷ code) (suc position) = length (encoded instruction) + place_of code position
 
--- the distance from the end of a jump to its target, in 32 bits, two's complement
+-- the distance from the end of a jump or a call to its target, in 32 bits, two's complement
 abbrev pub distance : ℕ → ℕ → ℕ
 distance from to = (to + 2 ^ 32 - from) % 2 ^ 32
 
@@ -20,6 +20,7 @@ distance from to = (to + 2 ^ 32 - from) % 2 ^ 32
 abbrev pub aimed : List Instruction → ℕ → Instruction → Instruction
 aimed code end (Jump to) = Jump (distance end (place_of code to))
 aimed code end (JumpIf condition to) = JumpIf condition (distance end (place_of code to))
+aimed code end (Call to) = Call (distance end (place_of code to))
 aimed code end instruction = instruction
 
 -- the bytes of the last instructions of a program, the first of which begins at a place
@@ -34,13 +35,14 @@ assembled code = bytes_from code 0 code
 
 -- ---- programs that can be assembled
 
--- an instruction that, if it is a jump, goes to an instruction of the program or to its end
+-- an instruction that, if it is a jump or a call, goes to an instruction of the program or to its end
 abbrev pub IsAimed : List Instruction → Instruction → Type 0
 IsAimed code (Jump to) = to ≤ length code
 IsAimed code (JumpIf condition to) = to ≤ length code
+IsAimed code (Call to) = to ≤ length code
 IsAimed code instruction = Unit {0}
 
--- each instruction has an encoding, and each jump a target
+-- each instruction has an encoding, and each jump and each call a target
 pub record AreInstructions (code : List Instruction) : Type 0 where
   pub each : (position : ℕ) (instruction : Instruction) → slice_get code position ≡ Some instruction → IsInstruction instruction
   pub aims : (position : ℕ) (instruction : Instruction) → slice_get code position ≡ Some instruction → IsAimed code instruction

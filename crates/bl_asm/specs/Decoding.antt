@@ -30,7 +30,7 @@ use Rattle.bl_x64.specs.declared.instruction.Address.{Address}
 use Rattle.bl_x64.specs.declared.instruction.Place.{Place}
 use Rattle.bl_x64.specs.declared.instruction.Place.TheVariants.{Register as InRegister, Memory as InMemory}
 use Rattle.bl_x64.specs.declared.instruction.Instruction.{Instruction}
-use Rattle.bl_x64.specs.declared.instruction.Instruction.TheVariants.{Mov, Store, Constant, Extend, Alu, Test, Imul, Rotate, Count, SetIf, MoveIf, FillSign, Divide, Lfence, Jump, JumpIf}
+use Rattle.bl_x64.specs.declared.instruction.Instruction.TheVariants.{Mov, Store, Constant, Extend, Alu, Test, Imul, Rotate, Count, SetIf, MoveIf, FillSign, Divide, Lfence, Jump, JumpIf, Call, Ret}
 
 -- an instruction and the bytes after it
 abbrev pub Decoded : Type 0
@@ -136,6 +136,8 @@ pub data Form : Type 0 where
   rotate : Form
   group_3 : Form
   jump : Form
+  call : Form
+  ret : Form
   fence : Form
   imul : Form
   extend : Extension → Form
@@ -164,7 +166,9 @@ plain_form byte =
     else (if byte == 0xD3 then rotate
     else (if byte == 0xE9 then jump
     else (if byte == 0xF7 then group_3
-    else other)))))))))))))))
+    else (if byte == 0xC3 then ret
+    else (if byte == 0xE8 then call
+    else other)))))))))))))))))
 
 -- the same by the prefix: 66 is read only with 89
 abbrev pub form_of : Prefix → ℕ → Form
@@ -262,6 +266,8 @@ decode_form rotate rex bytes =
     at_rotation (slice_index_or rotations field None) (λ op. give (Rotate op (size_of rex.w) r) rest)))
 decode_form group_3 rex bytes = operands rex bytes (λ field place rest. at_register place (λ r. divide_by field (size_of rex.w) r rest))
 decode_form jump rex bytes = immediate 4 bytes (λ number rest. give (Jump number) rest)
+decode_form call rex bytes = immediate 4 bytes (λ number rest. give (Call number) rest)
+decode_form ret rex bytes = give Ret bytes
 decode_form fence rex [] = None
 decode_form fence rex (byte ∷ rest) = give_if (byte == 0xE8) Lfence rest
 decode_form imul rex bytes = operands rex bytes (λ field place rest. give (Imul (size_of rex.w) (register_of rex.r field) place) rest)

@@ -1,11 +1,11 @@
 -- The bytes of each instruction, as the encoder writes them. See the Intel 64 and IA-32 Architectures Software Developer's Manual, volume 2,
 -- chapter 2, and the opcode column of each instruction's page. The form is [prefix] [REX] opcode [ModRM [SIB displacement]] [immediate]. Of the encodings
 -- that the manual allows, this one is chosen:
--- - Every instruction except JMP, Jcc and LFENCE has a REX byte, even if its bits are 0. So a register of 8 bits is always the lowest byte of its
+-- - Every instruction except JMP, Jcc, CALL, RET and LFENCE has a REX byte, even if its bits are 0. So a register of 8 bits is always the lowest byte of its
 --   register, and never AH, CH, DH or BH.
 -- - Memory is always named by a SIB byte and 4 bytes of displacement (mod 2, r/m 4).
 -- - Operations read their second operand from r/m (opcodes 03, 0B, 23, 2B, 33, 3B and 8B), not from reg. TEST has its second operand in reg.
--- - MOV of a number has 4 bytes if they suffice, and 8 otherwise. Jumps have 4 bytes.
+-- - MOV of a number has 4 bytes if they suffice, and 8 otherwise. Jumps and calls have 4 bytes. RET is C3.
 use Rattle.std.specs.Prelude.{ℕ, ◌+◌, ◌*◌, ◌/◌, ◌%◌, ◌^◌, Bool, true, false, nat_lt, if◌then◌else◌, List, [], ◌∷◌, ◌++◌, Option, Some, None}
 use Rattle.bl_base.specs.Bytes.{bytes_of}
 use Rattle.bl_x64.specs.Registers.{code_of}
@@ -28,7 +28,7 @@ use Rattle.bl_x64.specs.declared.instruction.Address.{Address}
 use Rattle.bl_x64.specs.declared.instruction.Place.{Place}
 use Rattle.bl_x64.specs.declared.instruction.Place.TheVariants.{Register as InRegister, Memory as InMemory}
 use Rattle.bl_x64.specs.declared.instruction.Instruction.{Instruction}
-use Rattle.bl_x64.specs.declared.instruction.Instruction.TheVariants.{Mov, Store, Constant, Extend, Alu, Test, Imul, Rotate, Count, SetIf, MoveIf, FillSign, Divide, Lfence, Jump, JumpIf}
+use Rattle.bl_x64.specs.declared.instruction.Instruction.TheVariants.{Mov, Store, Constant, Extend, Alu, Test, Imul, Rotate, Count, SetIf, MoveIf, FillSign, Divide, Lfence, Jump, JumpIf, Call, Ret}
 
 -- ---- fields of bytes
 
@@ -160,3 +160,5 @@ encoded (Divide sign size divisor) = one 0xF7 (wide size) (division_code sign) (
 encoded Lfence = 0x0F ∷ 0xAE ∷ 0xE8 ∷ []
 encoded (Jump to) = 0xE9 ∷ bytes_of 4 to
 encoded (JumpIf condition to) = 0x0F ∷ (128 + condition_code condition) ∷ bytes_of 4 to
+encoded (Call to) = 0xE8 ∷ bytes_of 4 to
+encoded Ret = 0xC3 ∷ []

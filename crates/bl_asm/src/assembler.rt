@@ -21,7 +21,7 @@ pub(crate) fn places_of(alloc: Global, code: &[Instruction]) -> Result<Vec<usize
     Ok(places)
 }
 
-/// The distance from the end of a jump to its target, in two's complement.
+/// The distance from the end of a jump or a call to its target, in two's complement.
 fn distance_to(end: usize, target: usize) -> u32
     requires end_small { end < 2 ^ 31 }
     requires target_small { target < 2 ^ 31 }
@@ -55,6 +55,12 @@ fn aim_at(
             prove!(to as usize <= code.len());
             Instruction::JumpIf {
                 condition,
+                to: distance_to(end, places[to as usize]),
+            }
+        }
+        Instruction::Call { to } => {
+            prove!(to as usize <= code.len());
+            Instruction::Call {
                 to: distance_to(end, places[to as usize]),
             }
         }

@@ -44,17 +44,19 @@ fn is_instruction(instruction: Instruction) -> bool
     }
 }
 
-/// Whether an instruction, if it is a jump, goes to an instruction of the program or to its end.
+/// Whether an instruction, if it is a jump or a call, goes to an instruction of the program or to its end.
 fn is_aimed(code: &[Instruction], instruction: Instruction) -> bool
     ensures { IsTrue result ↔ IsAimed code.now instruction }
 {
     match instruction {
-        Instruction::Jump { to } | Instruction::JumpIf { to, .. } => to as usize <= code.len(),
+        Instruction::Jump { to } | Instruction::JumpIf { to, .. } | Instruction::Call { to } => {
+            to as usize <= code.len()
+        }
         _ => true,
     }
 }
 
-/// Whether each instruction has an encoding, and each jump a target in the program.
+/// Whether each instruction has an encoding, and each jump and each call a target in the program.
 fn are_instructions(code: &[Instruction]) -> bool
     ensures { IsTrue result ↔ AreInstructions code.now }
 {
@@ -66,7 +68,7 @@ fn are_instructions(code: &[Instruction]) -> bool
     true
 }
 
-/// The bytes of a program; None exactly if the program cannot be assembled: an instruction has no encoding, a jump has no target in the program, or
+/// The bytes of a program; None exactly if the program cannot be assembled: an instruction has no encoding, a jump or a call has no target in the program, or
 /// the program has 2^31 bytes or more.
 pub fn assemble_checked(alloc: Global, code: &[Instruction]) -> Result<Option<Vec<u8>>, NoMemory>
     ensures bytes { IfOk result (λ answer. IfSome answer (λ bytes. IsCode code.now × (bytes.items ≡ assembled code.now))) }

@@ -385,7 +385,23 @@ fn push_jump_if(condition: Condition, distance: u32, bytes: &mut Vec<u8>) -> Res
     push_4(distance, bytes)
 }
 
-/// Appends the bytes of an instruction (`encoded`, specs/Encoding.antt). The target of a jump is its distance.
+/// Appends a call by a distance.
+fn push_call(distance: u32, bytes: &mut Vec<u8>) -> Result<(), NoMemory>
+    ensures { OnOk result (bytes.new.items ≡ bytes.old.items ++ encoded (i.Call distance)) }
+{
+    bytes.push(0xE8)?;
+    push_4(distance, bytes)
+}
+
+/// Appends a return.
+fn push_return(bytes: &mut Vec<u8>) -> Result<(), NoMemory>
+    ensures { OnOk result (bytes.new.items ≡ bytes.old.items ++ encoded i.Ret) }
+{
+    bytes.push(0xC3)?;
+    Ok(())
+}
+
+/// Appends the bytes of an instruction (`encoded`, specs/Encoding.antt). The target of a jump or a call is its distance.
 pub fn encode(instruction: Instruction, bytes: &mut Vec<u8>) -> Result<(), NoMemory>
     ensures { OnOk result (bytes.new.items ≡ bytes.old.items ++ encoded instruction) }
 {
@@ -416,5 +432,7 @@ pub fn encode(instruction: Instruction, bytes: &mut Vec<u8>) -> Result<(), NoMem
         Instruction::Lfence => push_fence(bytes),
         Instruction::Jump { to } => push_jump(to, bytes),
         Instruction::JumpIf { condition, to } => push_jump_if(condition, to, bytes),
+        Instruction::Call { to } => push_call(to, bytes),
+        Instruction::Ret => push_return(bytes),
     }
 }

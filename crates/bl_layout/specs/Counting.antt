@@ -58,13 +58,14 @@ counting_code =
     ∷ i.Mov Long Rax (place.Memory (behind Rsp 0)) ∷ i.Constant Rcx 1 ∷ i.Alu alu.Add Long Rax (place.Register Rcx) ∷ i.Store width.Quad (behind Rsp 0) Rax
     ∷ i.Mov Long Rax (place.Memory (behind Rsp 0)) ∷ i.Test Long Rax Rax ∷ i.JumpIf NotEqual 7 ∷ i.Jump 0 ∷ []
 
--- three areas of 4096 bytes, with a frame at the beginning of the slots
+-- three areas of 4096 bytes, with a frame at the beginning of the slots. No instruction of the program reads the table of addresses, so each is 0
 abbrev pub counting_frame : Frame
 counting_frame = record {
   areas = record {
     context = record { start = 0x10000; size = 4096 };
     slots = record { start = 0x20000; size = 4096 };
     memory = record { start = 0x30000; size = 4096 };
+    starts = λ position. 0;
   };
   base = 0x20000;
   size = 8;

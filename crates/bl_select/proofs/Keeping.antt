@@ -4,7 +4,7 @@ use Rattle.std.specs.Prelude.{nat_eq}
 use Rattle.std.proofs.lemmas.Bool.Decides.{nat_tests}
 use Rattle.bl_base.specs.Bytes.{number_of}
 use Rattle.bl_x64.specs.Registers.{Registers, code_of, put, bytes_in}
-use Rattle.bl_x64.specs.Machines.{Area, Areas, Core, Effect, goes_on, jumps, faults, by, is_in, is_allowed, bytes_at, address_in, loaded, read, with_register, effect, widened}
+use Rattle.bl_x64.specs.Machines.{Area, Areas, Core, Effect, goes_on, jumps, calls, returns, faults, by, is_in, is_allowed, bytes_at, address_in, loaded, read, with_register, effect, widened}
 use Rattle.bl_x64.specs.declared.register.Register.{Register}
 use Rattle.bl_x64.specs.declared.register.Register.TheVariants.{Rax, Rcx, Rdx, Rsp, R15}
 use Rattle.bl_x64.specs.declared.instruction.Size.{Size}
@@ -73,6 +73,8 @@ append_runs areas (i ∷ xs) ys c = by_effect (effect areas i c) (λ d. append_r
     by_effect : (x : Effect) → ((d : Core) → runs areas (xs ++ ys) d ≡ behind_some areas ys (runs areas xs d)) → next x (runs areas (xs ++ ys)) ≡ behind_some areas ys (next x (runs areas xs))
     by_effect (goes_on d) h = h d
     by_effect (jumps to d) h = refl
+    by_effect (calls to d) h = refl
+    by_effect (returns address d) h = refl
     by_effect faults h = refl
 
 pub runs_append : (areas : Areas) (xs ys : List Instruction) (c d : Core) → runs areas xs c ≡ Some d → runs areas (xs ++ ys) c ≡ runs areas ys d

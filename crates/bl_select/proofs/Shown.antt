@@ -15,7 +15,7 @@ use Rattle.bl_program.specs.declared.definitions.ProgramParts.{ProgramParts as P
 use Rattle.bl_x64.specs.Registers.{Registers, bits_of}
 use Rattle.bl_x64.specs.Operations.{Flags, alu_flags, holds}
 use Rattle.bl_x64.specs.declared.instruction.Alu.TheVariants as alu
-use Rattle.bl_x64.specs.Machines.{Areas, Core, Effect, goes_on, jumps, faults, if_holds, address_in, with_register, effect}
+use Rattle.bl_x64.specs.Machines.{Areas, Core, Effect, goes_on, jumps, calls, returns, faults, if_holds, address_in, with_register, effect}
 use Rattle.bl_x64.specs.Observations.{Observation, shown, reads, writes, branches, divides}
 use Rattle.bl_x64.specs.declared.register.Register.TheVariants.{Rax, Rcx, Rdx, Rsp, R14, R15}
 use Rattle.bl_x64.specs.declared.instruction.Size.{Size}
@@ -50,6 +50,8 @@ shows_append areas (x ∷ xs) ys c d e = by_effect (effect areas x c) (λ b r. s
         → shown x c ++ next_shown z (shows areas (xs ++ ys)) ≡ (shown x c ++ next_shown z (shows areas xs)) ++ shows areas ys d
     by_effect (goes_on b) more r = ap (λ l. shown x c ++ l) (more b r) ∙ sym (append_assoc (shown x c) (shows areas xs b) (shows areas ys d))
     by_effect (jumps to b) more r = absurd (none-some d r)
+    by_effect (calls to b) more r = absurd (none-some d r)
+    by_effect (returns address b) more r = absurd (none-some d r)
     by_effect faults more r = absurd (none-some d r)
 
 ends_by : (o : Option Core) (d : Core) → o ≡ Some d → Ends o

@@ -8,7 +8,7 @@ use Rattle.bl_ops.specs.declared.op.Op.{Op}
 use Rattle.bl_ops.specs.declared.op.Op.TheVariants as op
 use Rattle.bl_x64.specs.Registers.{Registers, put, bytes_in, width_of}
 use Rattle.bl_x64.specs.Operations.{Flags, extended_bytes, holds, alu_writes, unknown, overflows}
-use Rattle.bl_x64.specs.Machines.{Areas, Core, Effect, goes_on, jumps, faults, by, divide, divided, if_holds, is_allowed, address_in, index_in, widened, read, with_result_if, effect}
+use Rattle.bl_x64.specs.Machines.{Areas, Core, Effect, goes_on, jumps, calls, returns, faults, by, divide, divided, if_holds, is_allowed, address_in, index_in, widened, read, with_result_if, effect}
 use Rattle.bl_x64.specs.Observations.{Observation, shown, shown_by, reads, writes}
 use Rattle.bl_x64.specs.declared.register.Register.{Register}
 use Rattle.bl_x64.specs.declared.register.Register.TheVariants.{Rax, Rcx, Rdx, Rsp, R15}
@@ -18,7 +18,7 @@ use Rattle.bl_x64.specs.declared.instruction.Address.{Address}
 use Rattle.bl_x64.specs.declared.instruction.Place.{Place}
 use Rattle.bl_x64.specs.declared.instruction.Place.TheVariants as place
 use Rattle.bl_x64.specs.declared.instruction.Instruction.{Instruction}
-use Rattle.bl_x64.specs.declared.instruction.Instruction.TheVariants.{Mov, Store, Constant, Extend, Alu, Test, Imul, Rotate, Count, SetIf, MoveIf, FillSign, Divide, Lfence, Jump, JumpIf}
+use Rattle.bl_x64.specs.declared.instruction.Instruction.TheVariants.{Mov, Store, Constant, Extend, Alu, Test, Imul, Rotate, Count, SetIf, MoveIf, FillSign, Divide, Lfence, Jump, JumpIf, Call, Ret}
 use Rattle.bl_select.specs.Frames.{is_free}
 use Rattle.bl_select.specs.Shapes.{divides, shape_of}
 use Rattle.bl_select.specs.Silence.{SameBases, IsWritable, Ends, most_of}
@@ -67,8 +67,10 @@ is_steady (Divide sign size divisor) = false
 is_steady Lfence = true
 is_steady (Jump to) = false
 is_steady (JumpIf condition to) = false
+is_steady (Call to) = false
+is_steady Ret = false
 
--- it writes neither, and doesn't jump
+-- it writes neither, and neither jumps, calls nor returns
 abbrev pub leaves : Instruction → Bool
 leaves (Mov size to from) = not (is_base to)
 leaves (Store width to from) = true
@@ -86,6 +88,8 @@ leaves (Divide sign size divisor) = true
 leaves Lfence = true
 leaves (Jump to) = false
 leaves (JumpIf condition to) = false
+leaves (Call to) = false
+leaves Ret = false
 
 abbrev pub AreSteady : List Instruction → Type 0
 AreSteady [] = Unit {0}
@@ -144,6 +148,8 @@ shown_same (Divide sign size divisor) c d e h = cc
 shown_same Lfence c d e h = refl
 shown_same (Jump to) c d e h = cc
 shown_same (JumpIf condition to) c d e h = cc
+shown_same (Call to) c d e h = cc
+shown_same Ret c d e h = cc
 
 -- ---- the bases stay
 
@@ -226,6 +232,8 @@ module _ (areas : Areas) (c : Core) where
   leaves_stays Lfence e = by_none c _ refl
   leaves_stays (Jump to) e = cc
   leaves_stays (JumpIf condition to) e = cc
+  leaves_stays (Call to) e = cc
+  leaves_stays Ret e = cc
 
 steady_leaves : (i : Instruction) → is_steady i ≡ true → leaves i ≡ true
 steady_leaves (Mov size to from) e = first_of (not (is_base to)) (is_steady_place from) e
@@ -244,6 +252,8 @@ steady_leaves (Divide sign size divisor) e = refl
 steady_leaves Lfence e = refl
 steady_leaves (Jump to) e = e
 steady_leaves (JumpIf condition to) e = e
+steady_leaves (Call to) e = e
+steady_leaves Ret e = e
 
 -- ---- two runs
 
@@ -261,7 +271,11 @@ shows_one areas i xs c d l same h more p q =
         → next_shown x (shows areas xs) ≡ next_shown y (shows areas xs)
     by_effects (goes_on a) (goes_on b) (stays_on _ g) (stays_on _ k) u v = more a b (both_same c d a b h g k) u v
     by_effects (goes_on a) (jumps to b) g k u v = elim k [ ]
+    by_effects (goes_on a) (calls to b) g k u v = elim k [ ]
+    by_effects (goes_on a) (returns address b) g k u v = elim k [ ]
     by_effects (jumps to a) y g k u v = elim g [ ]
+    by_effects (calls to a) y g k u v = elim g [ ]
+    by_effects (returns address a) y g k u v = elim g [ ]
     by_effects faults y g k u v = absurd u
     by_effects (goes_on a) faults g k u v = absurd v
 

@@ -18,7 +18,7 @@ abbrev pub IsWritable : Location → Type 0
 IsWritable (InRegister r) = IsTrue (is_free r)
 IsWritable l = Unit {0}
 
--- a run of instructions reaches their end: none of them jumps or is stuck
+-- a run of instructions reaches their end: none of them jumps, calls, returns or is stuck
 abbrev pub Ends : Option Core → Type 0
 Ends None = ⊥
 Ends (Some c) = Unit {0}

@@ -1,20 +1,22 @@
--- Every instruction except jumps goes on to the next one, or has no step.
+-- Every instruction except jumps, calls and returns goes on to the next one, or has no step.
 use Rattle.std.proofs.Common.{ℕ, Bool, true, false, Option, Some, None, cond}
 use Rattle.bl_x64.specs.Registers.{bytes_in, width_of}
 use Rattle.bl_x64.specs.Operations.{extended_bytes, holds}
 use Rattle.bl_x64.specs.Machines.{Areas, Core, Effect, goes_on, jumps, faults, by, if_holds, is_allowed, address_in, read, effect, divide}
 use Rattle.bl_x64.specs.declared.instruction.Instruction.{Instruction}
-use Rattle.bl_x64.specs.declared.instruction.Instruction.TheVariants.{Mov, Store, Constant, Extend, Alu, Test, Imul, Rotate, Count, SetIf, MoveIf, FillSign, Divide, Lfence, Jump, JumpIf}
+use Rattle.bl_x64.specs.declared.instruction.Instruction.TheVariants.{Mov, Store, Constant, Extend, Alu, Test, Imul, Rotate, Count, SetIf, MoveIf, FillSign, Divide, Lfence, Jump, JumpIf, Call, Ret}
 
--- an effect that is no jump
+-- an effect that is no jump, call or return
 pub data Falls : Effect → Type 0 where
   falls_on : (c : Core) → Falls (goes_on c)
   falls_out : Falls faults
 
--- an instruction that is no jump
+-- an instruction that is no jump, call or return
 abbrev pub IsPlain : Instruction → Type 0
 IsPlain (Jump to) = ⊥
 IsPlain (JumpIf condition to) = ⊥
+IsPlain (Call to) = ⊥
+IsPlain Ret = ⊥
 IsPlain i = Unit {0}
 
 by_falls : (o : Option ℕ) (f : ℕ → Effect) → ((value : ℕ) → Falls (f value)) → Falls (by o f)
@@ -52,3 +54,5 @@ plain_falls areas (Divide sign size divisor) c h = divide_falls sign _ _ _ _ c
 plain_falls areas Lfence c h = falls_on _
 plain_falls areas (Jump to) c h = absurd h
 plain_falls areas (JumpIf condition to) c h = absurd h
+plain_falls areas (Call to) c h = absurd h
+plain_falls areas Ret c h = absurd h

@@ -1,13 +1,14 @@
 -- What an instruction does to registers, flags and memory. Lay this file next to the pages of volume 2 of the manual for "MOV", "MOVZX",
 -- "MOVSX/MOVSXD", "ADD", "OR", "AND", "SUB", "XOR", "CMP", "TEST", "IMUL", "RCL/RCR/ROL/ROR", "SAL/SAR/SHL/SHR", "LZCNT", "TZCNT", "POPCNT",
--- "SETcc", "CMOVcc", "CWD/CDQ/CQO", "DIV", "IDIV", "LFENCE", "JMP" and "Jcc". Differences from the manual:
+-- "SETcc", "CMOVcc", "CWD/CDQ/CQO", "DIV", "IDIV", "LFENCE", "JMP", "Jcc", "CALL" and "RET". Differences from the manual:
 -- - The only memory operand is a base, an index with scale 1 if there is one, and a displacement of 32 bits. Segments have base 0.
 -- - An access must lie in one of three areas, whole. Any other access has no step: the machine is stuck there, and a proof that it is not stuck
 --   is a proof of memory safety. Paging, canonical addresses and alignment checks are not part of this model: the host maps the three areas.
 -- - Addresses are taken modulo 2 ^ 64, and an access that would wrap around lies in no area that ends below 2 ^ 64.
 -- - A division by 0, a quotient that does not fit, and a condition that reads an undefined flag have no step either.
 -- - LFENCE does nothing: this machine runs one instruction after another, without speculation.
--- - Code is separate from memory: no store changes it.
+-- - Code is separate from memory: no store changes it. Its addresses are numbers that CALL pushes and RET pops; no other instruction reads them.
+-- - Shadow stacks and indirect branch tracking are not part of this model.
 -- - Interrupts, other threads and the time of instructions are not part of this model.
 use Rattle.std.specs.Prelude.{ℕ, zero, suc, ◌+◌, ◌-◌, ◌*◌, ◌/◌, ◌%◌, ◌^◌, ◌==◌, ◌&&◌, ◌||◌, Bool, true, false, nat_lt, nat_le, if◌then◌else◌, List, [], ◌∷◌, length, slice_index, Option, Some, None, ℤ, int_lt, int_le, int_div, pos, ◌-ℤ◌, ◌*ℤ◌}
 use Rattle.bl_base.specs.Bytes.{number_of, bytes_of}
@@ -15,14 +16,14 @@ use Rattle.bl_ops.specs.Integer.{truth, bit, signed, unsigned, iextend_s}
 use Rattle.bl_x64.specs.Registers.{Registers, bits_of, bytes_in, width_of, low, put, put_byte}
 use Rattle.bl_x64.specs.Operations.{Flags, unknown, is_negative, alu_result, alu_flags, alu_writes, imul_result, imul_flags, rotation_result, rotation_flags, count_result, count_flags, extended_bytes, extension_result, holds, overflows}
 use Rattle.bl_x64.specs.declared.register.Register.{Register}
-use Rattle.bl_x64.specs.declared.register.Register.TheVariants.{Rax, Rcx, Rdx}
+use Rattle.bl_x64.specs.declared.register.Register.TheVariants.{Rax, Rcx, Rdx, Rsp}
 use Rattle.bl_x64.specs.declared.instruction.Size.{Size}
 use Rattle.bl_x64.specs.declared.instruction.Size.TheVariants as size
 use Rattle.bl_x64.specs.declared.instruction.Address.{Address}
 use Rattle.bl_x64.specs.declared.instruction.Place.{Place}
 use Rattle.bl_x64.specs.declared.instruction.Place.TheVariants as place
 use Rattle.bl_x64.specs.declared.instruction.Instruction.{Instruction}
-use Rattle.bl_x64.specs.declared.instruction.Instruction.TheVariants.{Mov, Store, Constant, Extend, Alu, Test, Imul, Rotate, Count, SetIf, MoveIf, FillSign, Divide, Lfence, Jump, JumpIf}
+use Rattle.bl_x64.specs.declared.instruction.Instruction.TheVariants.{Mov, Store, Constant, Extend, Alu, Test, Imul, Rotate, Count, SetIf, MoveIf, FillSign, Divide, Lfence, Jump, JumpIf, Call, Ret}
 use Rattle.bl_x64.specs.declared.instruction.Alu.TheVariants as alu
 
 -- ---- memory
@@ -33,11 +34,13 @@ pub record Area : Type 0 where
   pub size : ℕ
 
 -- the areas that a run may read and write: the context, which all calls share; the slots, which are the frames of the calls; and the bytes
--- of all memories
+-- of all memories. `starts` has the address of each instruction of the code, then the address of its end, and then the address to which the host's
+-- call returns. The machine over bytes uses only the first of these, which is the address of the first byte
 pub record Areas : Type 0 where
   pub context : Area
   pub slots : Area
   pub memory : Area
+  pub starts : ℕ → ℕ
 
 -- `count` bytes from an address on lie in an area
 abbrev pub is_in : Area → ℕ → ℕ → Bool
@@ -94,10 +97,13 @@ read areas count (place.Memory a) c = loaded areas count (address_in c.registers
 
 -- ---- effects
 
--- an instruction goes on to the next one, jumps to a target, or has no step
+-- An instruction goes on to the next one, jumps to a target, calls a target, returns to an address, or has no step. A call has not yet pushed the
+-- address of the next instruction, which each of the two machines knows in its own way. A return has popped its address
 pub data Effect : Type 0 where
   goes_on : Core → Effect
   jumps : ℕ → Core → Effect
+  calls : ℕ → Core → Effect
+  returns : ℕ → Core → Effect
   faults : Effect
 
 -- the effect of a number that was read; no step if the access lies in no area
@@ -128,6 +134,23 @@ with_result_if false c to value flags = record c { flags = flags }
 abbrev pub stored : Areas → ℕ → ℕ → ℕ → Core → Effect
 stored areas count from value c =
     if is_allowed areas from count then goes_on (record c { memory = written c.memory from (bytes_of count value) }) else faults
+
+-- ---- "CALL", "RET": the return address has 8 bytes, and RSP points to the last one that was pushed
+
+-- the address that 8 pushed bytes have
+abbrev pub pushed_at : Core → ℕ
+pushed_at c = (c.registers Rsp + 2 ^ 64 - 8) % 2 ^ 64
+
+-- the state after a number is pushed; None if its bytes lie in no area
+abbrev pub pushed : Areas → ℕ → Core → Option Core
+pushed areas value c =
+    if is_allowed areas (pushed_at c) 8
+    then Some (record { registers = put c.registers Rsp (pushed_at c); flags = c.flags; memory = written c.memory (pushed_at c) (bytes_of 8 value) })
+    else None
+
+-- the state after 8 bytes are popped
+abbrev pub popped : Core → Core
+popped c = with_register c Rsp ((c.registers Rsp + 8) % 2 ^ 64)
 
 -- ---- "DIV", "IDIV": a divisor of 0 and a quotient that does not fit have no step
 
@@ -200,3 +223,5 @@ effect areas (Divide sign size divisor) c =
 effect areas Lfence c = goes_on c
 effect areas (Jump to) c = jumps to c
 effect areas (JumpIf condition to) c = if_holds (holds condition c.flags) (jumps to c) (goes_on c)
+effect areas (Call to) c = calls to c
+effect areas Ret c = by (loaded areas 8 (c.registers Rsp) c.memory) (λ address. returns address (popped c))

@@ -127,8 +127,8 @@ pub enum Place {
     Memory(Address),
 }
 
-/// An instruction. The target of a jump is the number of an instruction if the jump is in a program of instructions. In the bytes of a program it
-/// is the distance from the end of the jump, in two's complement.
+/// An instruction. The target of a jump or a call is the number of an instruction in a program of instructions. In the bytes of a program it is the
+/// distance from the end of the jump or the call, in two's complement.
 #[derive(Clone, Copy, Debug, PartialEq, Eq)]
 pub enum Instruction {
     /// `mov r, r/m` ("MOV").
@@ -262,4 +262,11 @@ pub enum Instruction {
         /// The target.
         to: u32,
     },
+    /// `call rel32` ("CALL", a near call with a relative displacement).
+    Call {
+        /// The target.
+        to: u32,
+    },
+    /// `ret` ("RET", a near return that pops nothing but the address).
+    Ret,
 }

@@ -259,6 +259,9 @@ fn push_other_forms(code: &mut Vec<Instruction>) -> Result<(), NoMemory> {
     push_jump_ifs(0xFFFF_EDCC, code)?;
     code.push(Instruction::Jump { to: 0x1234_5678 })?;
     code.push(Instruction::Jump { to: 0xFFFF_FFF0 })?;
+    code.push(Instruction::Call { to: 0x1234_5678 })?;
+    code.push(Instruction::Call { to: 0xFFFF_FFF0 })?;
+    code.push(Instruction::Ret)?;
     code.push(Instruction::FillSign { size: Size::Long })?;
     code.push(Instruction::FillSign { size: Size::Quad })?;
     code.push(Instruction::Lfence)?;

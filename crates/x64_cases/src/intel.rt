@@ -310,5 +310,7 @@ pub fn push_intel(instruction: Instruction, text: &mut Vec<u8>) -> Result<(), No
             to,
             text,
         ),
+        Instruction::Call { to } => push_jump("call", "", to, text),
+        Instruction::Ret => push_word("ret", text),
     }
 }
