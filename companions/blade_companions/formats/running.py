@@ -247,8 +247,8 @@ def traced(run: Run, most: int) -> Iterator[str]:
 
 
 def access_trace(bounds: Command, steps: Iterator[Step]) -> Iterator[str]:
-    """The bounds, their test and the access behind them, which is executed first; nothing if the steps that may
-    be taken end before."""
+    """The bounds, their test and the access behind them, which is executed first. Nothing, if the steps that
+    may be taken end before."""
     _, _, outside = next(steps, (0, None, None))
     if outside is None:
         return
