@@ -97,6 +97,13 @@ PHRASES: Tuple[Tuple[str, str], ...] = (
         f"declare the memory secret by {MEMORY}",
     ),
     ("keep it in a memory that is declared secret", f"declare the memory secret by {MEMORY}"),
+    (
+        "compile all with -mcpu=mvp alone, as blade-cc does",
+        (
+            "the crates are compiled with -C target-cpu=mvp, but the standard library of rustc 1.82 and newer"
+            " isn't: build it by -Z build-std, or take an older toolchain"
+        ),
+    ),
     ("no lines of C", "no lines of Rust"),
     ("C's secret memory", "the secret memory"),
     ("C's memory", "the module's memory"),
